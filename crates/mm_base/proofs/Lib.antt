@@ -1,0 +1,9 @@
+pub mod Parts
+pub mod Numbers
+pub mod PlaceLaws
+pub mod Sets
+pub mod ListLaws
+pub mod TableLaws
+pub mod NameLaws
+pub mod Spelled
+pub mod ExactLaws
