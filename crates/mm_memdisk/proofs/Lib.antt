@@ -1,0 +1,3 @@
+mod Updates
+mod Names
+mod Writes

@@ -1,0 +1,5 @@
+pub mod Calls
+pub mod Fails
+pub mod Files
+pub mod MemDisk
+pub mod Streams
