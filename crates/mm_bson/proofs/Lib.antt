@@ -1,0 +1,11 @@
+pub mod Fields
+pub mod Numbered
+pub mod Loop
+pub mod Takes
+pub mod Again
+pub mod Holding
+pub mod Orders
+pub mod Paths
+pub mod Building
+pub mod Copies
+pub mod Places

@@ -1,0 +1,11 @@
+pub mod Tree
+pub mod Named
+pub mod Code
+pub mod Spelling
+pub mod Built
+pub mod View
+pub mod Falls
+pub mod Reading
+pub mod Order
+pub mod Path
+pub mod Faults

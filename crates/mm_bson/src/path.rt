@@ -1,0 +1,76 @@
+//! What stands at a path.
+
+ghost use Rattle.std.specs.Prelude.{◌≡◌, ◌+◌, ◌<◌, ◌==◌, drop, length, position, option_map, option_and_then, IfSome};
+ghost use Rattle.mm_bson.specs.Tree.{tree_depth};
+ghost use Rattle.mm_bson.specs.View.{tree, elements_of};
+ghost use Rattle.mm_bson.specs.Path.{find as find_in, members, value_at_path};
+
+use crate::doc::{Doc, Element, Value};
+
+/// The place of the first dot.
+fn dot_in(path: &[u8]) -> Option<usize>
+    ensures value { result ≡ position (λ b. b == 46) path.now }
+    ensures within { IfSome result (λ n. n < length path.now) }
+{
+    path.iter().position(|b| *b == 46)
+}
+
+/// What stands after the byte at this place.
+fn after(path: &[u8], at: usize) -> &[u8]
+    requires { at < length path.now }
+    ensures { result.now ≡ drop (at + 1) path.now }
+{
+    let (_, rest) = path.split_at(at + 1);
+    rest
+}
+
+fn find<'a>(elements: &'a [Element], name: &[u8]) -> Option<&'a Value>
+    ensures { option_map (λ v. tree v.now) result ≡ find_in name.now (elements_of elements.now) }
+{
+    let mut rest = elements;
+    while let [first, others @ ..] = rest {
+        if first.name.as_bytes() == name {
+            return Some(&first.value);
+        }
+        rest = others;
+    }
+    None
+}
+
+/// The elements of the document of this name.
+fn members_of<'a>(elements: &'a [Element], name: &[u8]) -> Option<&'a [Element]>
+    ensures { option_map (λ es. elements_of es.now) result ≡ option_and_then members (find_in name.now (elements_of elements.now)) }
+{
+    match find(elements, name) {
+        Some(Value::Document(document)) => Some(document.elements()),
+        _ => None,
+    }
+}
+
+impl Doc {
+    /// The first value of the name.
+    pub fn find(&self, name: &[u8]) -> Option<&Value>
+        ensures value { option_map (λ v. tree v.now) result ≡ find_in name.now self.now }
+        ensures shallow { IfSome result (λ v. tree_depth (tree v.now) < 100) }
+    {
+        find(self.elements(), name)
+    }
+
+    /// The value at the path, whose names are parted by dots: the first of each
+    /// name. Each name but the last leads to a document, else there is none.
+    pub fn get(&self, path: &str) -> Option<&Value>
+        ensures value { option_map (λ v. tree v.now) result ≡ value_at_path path.now self.now }
+        ensures shallow { IfSome result (λ v. tree_depth (tree v.now) < 100) }
+    {
+        let mut elements = self.elements();
+        let mut rest = path.as_bytes();
+        'steps: while let Some(n) = dot_in(rest) {
+            match members_of(elements, &rest[..n]) {
+                None => return None,
+                Some(inner) => elements = inner,
+            }
+            rest = after(rest, n);
+        }
+        find(elements, rest)
+    }
+}
