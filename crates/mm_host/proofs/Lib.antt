@@ -1,0 +1,3 @@
+-- Lemmas of the crate: parts of slices, and names.
+mod FileNames
+mod Parts

@@ -1,0 +1,2 @@
+-- What the contracts of the adapters cite.
+pub mod Names

@@ -1,0 +1,3 @@
+mod folder;
+mod streams;
+mod system;
