@@ -1,0 +1,11 @@
+pub mod FileSteps
+pub mod FrameSteps
+pub mod LineSteps
+pub mod LiveSteps
+pub mod RoomSteps
+pub mod RunSteps
+pub mod ScriptSteps
+pub mod StreamSteps
+pub mod TopSteps
+pub mod WordSteps
+pub mod WordsSteps

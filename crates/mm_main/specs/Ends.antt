@@ -1,0 +1,73 @@
+-- What a run came to, before it is printed.
+use Rattle.std.specs.Prelude.{◌≡◌, ℕ, ◌+◌, List, [], take, Option, Some, string_bytes}
+use Rattle.std.specs.FinMap.{keys}
+use Rattle.mm_outside.specs.Told.{Told, IfTold, image_of}
+use Rattle.mm_bson.specs.Tree.{Elements}
+use Rattle.mm_main.specs.declared.status.Status.{Status}
+use Rattle.mm_main.specs.declared.status.Status.TheVariants as status
+use Rattle.mm_main.specs.declared.run.End.{End}
+use Rattle.mm_main.specs.declared.run.End.TheVariants.{Usage, Refused, Present, Played, SourceFailed, DiskFailed, NoMemory}
+use Rattle.mm_main.specs.declared.text.TheConstants.{USAGE, DISK_FAULT, SOURCE_FAULT, NO_MEMORY}
+use Rattle.mm_main.specs.Answers.{reply_lines}
+use Rattle.mm_main.specs.FirstFile.{IsFirstFile}
+use Rattle.mm_main.specs.Room.{replies_of}
+use Rattle.mm_main.specs.Script.{IsScript, IsFirstOther, most_bytes}
+use Rattle.mm_main.specs.Stored.{Stores, Began}
+use Rattle.mm_main.specs.Texts.{refusal_text, present_text}
+use Rattle.mm_main.specs.Words.{IsPlay}
+
+-- what it says
+abbrev pub end_text : End → List ℕ
+end_text Usage = USAGE.now
+end_text (Refused line text) = string_bytes text
+end_text (Present name text) = string_bytes text
+end_text (Played text) = string_bytes text
+end_text SourceFailed = SOURCE_FAULT.now
+end_text DiskFailed = DISK_FAULT.now
+end_text NoMemory = NO_MEMORY.now
+
+abbrev pub end_status : End → Status
+end_status Usage = status.Usage
+end_status (Refused line text) = status.ScriptRefused
+end_status (Present name text) = status.FilesRefused
+end_status (Played text) = status.Done
+end_status SourceFailed = status.SourceFault
+end_status DiskFailed = status.DiskFault
+end_status NoMemory = status.NoMemory
+
+-- of what is read of a source that tells: all that was to come, or one byte more than a script has
+abbrev pub IfComing : Option (List ℕ) → (List ℕ → Type 0) → Type 0
+IfComing coming P = (bytes : List ℕ) → coming ≡ Some bytes → P (take (most_bytes + 1) bytes)
+
+-- the bytes are some script
+abbrev pub IsAnyScript : List ℕ → Type 0
+IsAnyScript bytes = (collection : List ℕ) × (docs : List Elements) × IsScript collection docs bytes
+
+-- what playing a script comes to
+abbrev pub Plays : List ℕ → List Elements → Option Told → Option Told → End → Type 0
+Plays collection docs old new (Played text) = (string_bytes text ≡ reply_lines 1 (replies_of docs)) × IfTold old (λ t. keys (image_of t) ≡ []) × Stores collection docs old new
+Plays collection docs old new (Present name text) = (string_bytes text ≡ present_text (string_bytes name)) × (new ≡ old) × IfTold old (λ t. IsFirstFile (Some (string_bytes name)) (keys (image_of t)))
+Plays collection docs old new DiskFailed = Began old new
+Plays collection docs old new NoMemory = Began old new
+Plays collection docs old new _ = ⊥
+
+-- what `play` comes to, by what was to come and by what the disk told before and after it
+abbrev pub PlayEnds : Option (List ℕ) → Option Told → Option Told → End → Type 0
+PlayEnds coming old new SourceFailed = new ≡ old
+PlayEnds coming old new (Refused line text) = (string_bytes text ≡ refusal_text line) × (new ≡ old) × IfComing coming (IsFirstOther line)
+PlayEnds coming old new (Present name text) = (collection : List ℕ) × (docs : List Elements) × IfComing coming (IsScript collection docs) × Plays collection docs old new (Present name text)
+PlayEnds coming old new (Played text) = (collection : List ℕ) × (docs : List Elements) × IfComing coming (IsScript collection docs) × Plays collection docs old new (Played text)
+PlayEnds coming old new DiskFailed = (collection : List ℕ) × (docs : List Elements) × IfComing coming (IsScript collection docs) × Began old new
+PlayEnds coming old new NoMemory = Began old new
+PlayEnds coming old new Usage = ⊥
+
+-- what the words come to
+abbrev pub Ends : List (List ℕ) → Option (List ℕ) → Option Told → Option Told → End → Type 0
+Ends words coming old new Usage = (IsPlay words → ⊥) × (new ≡ old)
+Ends words coming old new end = IsPlay words × PlayEnds coming old new end
+
+-- the line is refused, or memory ran out
+abbrev pub IsRefusal : ℕ → End → Type 0
+IsRefusal line (Refused n text) = (n ≡ line) × (string_bytes text ≡ refusal_text line)
+IsRefusal line NoMemory = Unit {0}
+IsRefusal line _ = ⊥

@@ -1,0 +1,16 @@
+pub mod Answers
+pub mod Codes
+pub mod DataFile
+pub mod Ends
+pub mod FirstFile
+pub mod Inserts
+pub mod Lines
+pub mod Live
+pub mod Room
+pub mod Script
+pub mod Stored
+pub mod Streams
+pub mod Texts
+pub mod Top
+pub mod Words
+pub mod Written
