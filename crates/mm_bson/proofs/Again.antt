@@ -199,7 +199,7 @@ mutual
       let small : length (values_spelling 0 vs) < 2 ^ 32 = omega (arith, inner_len (values_spelling 0 vs), short) in
       let few : count vs ≤ length (values_spelling 0 vs) = count_le 0 vs in
       let inner = λ (start : ℕ). nested_from levels (Some 0) start es (λ e. subst (λ (x : List ℕ). elements_at (nested_at levels) (Some 0) start e (length x) x ≡ Ok es) spelled
-          (values_again vs 0 levels start e (length (values_spelling 0 vs)) fits (omega arith) small (omega arith) (omega arith))) in
+      (values_again vs 0 levels start e (length (values_spelling 0 vs)) fits (omega arith) small (omega arith) (omega arith))) in
       let read = document_again (nested_at (suc levels) (Some 0)) end es rest (omega (arith, ap length same, short)) inner in
       rw (same, read, unnamed_again 0 vs) refl
 

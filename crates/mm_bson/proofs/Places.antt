@@ -139,7 +139,7 @@ module _ (read : Reader) (levels : ℕ) (reads : Reads read levels) (places : Pl
       (λ p. len_lies lo end bytes e p at)
       (λ n ok p. lies_map lo end (read due (end - length bytes) (take n bytes)) (λ es. (es, drop n bytes)) e p
       (λ q. wider (end - length bytes) ((end - length bytes) + (length (take n bytes) - 1)) lo end e (omega arith) (omega (arith, length-take n bytes, (len_ok end bytes n ok).0.long, (len_ok end bytes n ok).1))
-          (places.lies due (end - length bytes) (take n bytes) e (IsBytes-take n bytes fits) (len_ok end bytes n ok).0 q)))
+      (places.lies due (end - length bytes) (take n bytes) e (IsBytes-take n bytes fits) (len_ok end bytes n ok).0 q)))
 
   value_lies : (k : Kind) (bytes : List ℕ) (e : BsonFault) → IsBytes bytes → value_at read k end bytes ≡ Err e → lo + length bytes ≤ end → LiesIn lo end e
   unfolding value_at

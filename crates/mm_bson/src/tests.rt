@@ -78,7 +78,10 @@ const FAULTS: [(&str, BsonFault); 64] = [
     ("0b000000 106100 010000 00", BadLength { at: 7 }),
     ("0f000000 126100 01020304050607 00", BadLength { at: 7 }),
     ("0f000000 096100 01020304050607 00", BadLength { at: 7 }),
-    ("13000000 076100 0102030405060708090a0b 00", BadLength { at: 7 }),
+    (
+        "13000000 076100 0102030405060708090a0b 00",
+        BadLength { at: 7 },
+    ),
     // booleans
     ("08000000 086100 00", BadLength { at: 7 }),
     ("09000000 086100 02 00", BadType { at: 7, byte: 0x02 }),
@@ -108,19 +111,31 @@ const FAULTS: [(&str, BsonFault); 64] = [
     ("0d000000 036100 05000000 01 00", BadLength { at: 7 }),
     ("0d000000 036100 05000000 19 00", BadLength { at: 7 }),
     ("0e000000 036100 06000000 0000 00", BadLength { at: 7 }),
-    ("0e000000 036100 06000000 1900 00", BadType { at: 11, byte: 0x19 }),
+    (
+        "0e000000 036100 06000000 1900 00",
+        BadType { at: 11, byte: 0x19 },
+    ),
     ("0f000000 036100 07000000 0a6200 00", BadLength { at: 12 }),
     // arrays and their names
     ("0d000000 046100 04000000 00 00", BadLength { at: 7 }),
     ("10000000 046100 08000000 0a310000 00", BadName { at: 12 }),
     ("11000000 046100 09000000 0a30300000 00", BadName { at: 12 }),
     ("0f000000 046100 07000000 0a0000 00", BadName { at: 12 }),
-    ("13000000 046100 0b000000 0a30000a300000 00", BadName { at: 15 }),
-    ("13000000 046100 0b000000 0a31000a300000 00", BadName { at: 12 }),
+    (
+        "13000000 046100 0b000000 0a30000a300000 00",
+        BadName { at: 15 },
+    ),
+    (
+        "13000000 046100 0b000000 0a31000a300000 00",
+        BadName { at: 12 },
+    ),
     ("10000000 046100 08000000 0aff0000 00", BadUtf8 { at: 12 }),
     ("0f000000 046100 07000000 0a3100 00", BadLength { at: 12 }),
     ("11000000 046100 09000000 0831000200 00", BadName { at: 12 }),
-    ("11000000 046100 09000000 0830000200 00", BadType { at: 14, byte: 0x02 }),
+    (
+        "11000000 046100 09000000 0830000200 00",
+        BadType { at: 14, byte: 0x02 },
+    ),
 ];
 
 #[test]
@@ -227,7 +242,8 @@ fn reads(rt: HostRuntime) -> Result<(), Fail> {
 }
 
 /// {"a": {"b": [true], "b": "x"}, "a": Timestamp(2, 1)}
-const NESTED: &str = "2d000000 036100 1a000000 046200 09000000 08300001 00 026200 02000000 7800 00 116100 01000000 02000000 00";
+const NESTED: &str =
+    "2d000000 036100 1a000000 046200 09000000 08300001 00 026200 02000000 7800 00 116100 01000000 02000000 00";
 
 #[test]
 fn paths(rt: HostRuntime) -> Result<(), Fail> {
@@ -299,7 +315,10 @@ fn longest(rt: HostRuntime) -> Result<(), Fail> {
     let alloc = rt.alloc();
     let bytes = long(alloc, 16_777_203)?;
     assert_eq!(rt; bytes.len(), 16_777_216);
-    assert_eq!(rt; Doc::parse(alloc, bytes.as_slice())?.bytes().len(), 16_777_216);
+    assert_eq!(rt;
+        Doc::parse(alloc, bytes.as_slice())?.bytes().len(),
+        16_777_216
+    );
     let bytes = long(alloc, 16_777_204)?;
     match Doc::parse(alloc, bytes.as_slice()) {
         Ok(_) => assert!(rt; false, "16,777,217 bytes"),
@@ -327,11 +346,26 @@ fn builds(rt: HostRuntime) -> Result<(), Fail> {
     let mut list = ValueList::new(alloc)?;
     put_value(&rt, &mut list, Value::Boolean(true))?;
     let mut inner = Doc::new(alloc)?;
-    put(&rt, &mut inner, Text::from_str(alloc, "b")?, Value::Array(list))?;
+    put(
+        &rt,
+        &mut inner,
+        Text::from_str(alloc, "b")?,
+        Value::Array(list),
+    )?;
     let text = Text::from_str(alloc, "x")?;
-    put(&rt, &mut inner, Text::from_str(alloc, "b")?, Value::String(text))?;
+    put(
+        &rt,
+        &mut inner,
+        Text::from_str(alloc, "b")?,
+        Value::String(text),
+    )?;
     let mut doc = Doc::new(alloc)?;
-    put(&rt, &mut doc, Text::from_str(alloc, "a")?, Value::Document(inner))?;
+    put(
+        &rt,
+        &mut doc,
+        Text::from_str(alloc, "a")?,
+        Value::Document(inner),
+    )?;
     let time = Value::Timestamp {
         seconds: 2,
         increment: 1,

@@ -74,7 +74,7 @@ items-items-preserved t c =
     let t = tree e.value in
     let pushed : values_of c.push.new.self.items ≡ append_values vs (item t no_values) = rw c.in_ok-push.ensures.items (values_of-push c.items.found.items e.value) in
     let grown : named 0 (values_of c.push.new.self.items) ≡ append (named 0 vs) (element (decimal c.items.index) t no_elements) =
-        ap (named 0) pushed ∙ sym (numbered_push vs t c.items.index inv.1) in
+    ap (named 0) pushed ∙ sym (numbered_push vs t c.items.index inv.1) in
     let next = goes_on (nested_at c.args.levels) c.args.start c.args.end (Some c.items.index) (named 0 vs) inv.2 c.items.rest.now (decimal c.items.index) t e.after.now _ inv.3 e.ensures.left e.ensures.gives inv.4 in
     (omega (arith, e.ensures.left), omega (arith, ap count pushed, count-push vs t), next.0, next.1, rw grown next.2)
 

@@ -12,5 +12,5 @@ returns-clause-spelled c = λ inner is.
     let parts : all ≡ (((framed inner ++ name) ++ 0 ∷ []) ++ value_spelling t) ++ 0 ∷ [] = rw (c.put-3.ensures.items, c.put_value.ensures.items, c.put-2.ensures.items, c.put.ensures.items, is) refl in
     let last : c.len-last.result - 1 ≡ length (framed inner) - 1 = omega (arith, ap length is) in
     let given : c.seal.new.bytes ≡ framed (inner ++ element_spelling name t) =
-        c.seal.ensures ∙ rw (c.as_mut_slice.ensures.value, c.type_byte.ensures) (sealed inner name (value_spelling t) all _ (c.len-last.result - 1) parts last) in
+    c.seal.ensures ∙ rw (c.as_mut_slice.ensures.value, c.type_byte.ensures) (sealed inner name (value_spelling t) all _ (c.len-last.result - 1) parts last) in
     refilled c.put-3.new.out.len c.seal.new.bytes all (omega arith) (omega arith) ∙ given
