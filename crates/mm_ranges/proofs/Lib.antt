@@ -1,0 +1,14 @@
+pub mod Order
+pub mod Overlaying
+pub mod Covering
+pub mod Inserting
+pub mod Unique
+pub mod Shown
+pub mod First
+pub mod Splits
+pub mod Entries
+pub mod Kept
+pub mod Bounds
+pub mod Steps
+pub mod Last
+pub mod Weights

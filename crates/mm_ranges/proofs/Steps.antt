@@ -1,0 +1,295 @@
+-- What each step of an insertion leaves.
+use Rattle.std.proofs.Common.{◌≡◌, ℕ, ◌+◌, ◌-◌, ◌<◌, ◌≤◌, min, max, Bool, true, false, cond, List, [], ◌∷◌, ◌++◌, Option, Some, None, refl, sym, ◌∙◌, ap, subst, arith, sum_by}
+use Rattle.std.specs.Prelude.{◌&&◌, ◌||◌, nat_lt, nat_le, ◌==◌}
+use Rattle.std.specs.BTreeMap.{is_at as is_key, insert_entry}
+use Rattle.std.specs.Map.{lookup, remove_entry}
+use Rattle.std.proofs.lemmas.Bool.{and_parts, and_from, le-leb, cond-false}
+use Rattle.std.proofs.lemmas.Bool.Decides.{nat_tests}
+use Rattle.std.proofs.lemmas.List.Sums.{sum_by-append, sum_by-cons}
+use Rattle.mm_ranges.specs.Places.{Range, is_before, is_span, is_first, is_spaced, joined, inserted}
+use Rattle.mm_ranges.specs.Room.{is_at, is_touched, shown}
+use Rattle.mm_ranges.specs.Spans.{Entry, span_of, spans_of, ends_before, first_at, are_forward, count_of, IsKept, Counts, Joins, places_in, ranges_in, entry_of, range_of}
+use Rattle.mm_ranges.specs.declared.spans.Span.{Span}
+use Rattle.mm_ranges.specs.declared.spans.Tally.{Tally}
+use Rattle.mm_ranges.proofs.Order.{spaced_parts}
+use Rattle.mm_ranges.proofs.Inserting.{is_spaced-inserted}
+use Rattle.mm_ranges.proofs.Splits.{Reaches, touched-append, spaced_after, spaced_without, inserted-joined, inserted-stretched, inserted-alone}
+use Rattle.mm_ranges.proofs.Entries.{key_cmp, AllEnd, IsPast, found_at, all_end, entry_new, spans_of-append, are_forward-append, forward_both, spans_before}
+use Rattle.mm_ranges.proofs.Kept.{Cut, cut_at, touched_reaches, touched_by_first}
+
+end_of : (start last : ℕ) → start ≤ last → start + (last - start) ≡ last
+end_of start last le = omega arith
+
+-- the entries without one
+abbrev pub without : Span → List Entry → List Entry
+without s es = remove_entry (is_key (key_cmp (s.file, s.end))) es
+
+-- a span stretched down to a start
+abbrev pub begun : Span → ℕ → Span
+begun w start = record w { start = start }
+
+-- the span that a look-up finds first reaches the one that is put in
+reaches : (es : List Entry) (w s : Span) → Joins w es → (c : Cut es (entry_of s) (range_of w)) → Reaches (range_of w) (span_of (entry_of s))
+reaches es w s joins c =
+    touched_reaches c.before c.after (span_of (entry_of s)) (range_of w) c.spaced c.past c.here
+    (subst (λ p. is_touched (c.before ++ span_of (entry_of s) ∷ c.after) w.file p ≡ true) (sym (end_of w.start w.end joins.order)) (ap (λ (rs : List Range). is_touched rs w.file w.end) (sym c.whole) ∙ joins.touched))
+
+-- sums over the spans, where one is taken out or changed
+sum_cut : (f : Range → ℕ) (ps qs : List Range) (r : Range) → sum_by f (ps ++ r ∷ qs) ≡ sum_by f (ps ++ qs) + f r
+sum_cut f ps qs r =
+    let whole = sum_by-append f ps (r ∷ qs) in
+    let some = sum_by-cons f r qs in
+    let rest = sum_by-append f ps qs in
+    omega arith
+
+-- ---- a span is taken out
+pub record TakenOut (es : List Entry) (w s : Span) : Type 0 where
+  pub there : lookup (is_key (key_cmp (s.file, s.end))) es ≡ Some s.start
+  pub kept : IsKept (without s es)
+  pub places_less : places_in es ≡ places_in (without s es) + (s.end - s.start)
+  pub ranges_less : ranges_in es ≡ ranges_in (without s es) + count_of (range_of s)
+  pub order : s.start ≤ s.end
+  pub joins : Joins (begun w (min w.start s.start)) (without s es)
+  pub same : inserted (range_of (begun w (min w.start s.start))) (spans_of (without s es)) ≡ inserted (range_of w) (spans_of es)
+
+pub taken_out : (es : List Entry) (w s : Span) → IsKept es → Joins w es → first_at w.file w.start es ≡ Some (entry_of s) → s.end < w.end → TakenOut es w s
+taken_out es w s kept joins found shorter = by_cut (cut_at es (entry_of s) (range_of w) kept found)
+  where
+    by_cut : Cut es (entry_of s) (range_of w) → TakenOut es w s
+    by_cut c =
+        let r = span_of (entry_of s) in
+        let near = reaches es w s joins c in
+        record {
+          there = c.there;
+          kept = record { forward = c.removed_forward; spaced = ap is_spaced c.removed ∙ spaced_without c.before c.after r c.spaced };
+          places_less = ap (sum_by (λ (q : Range). q.2)) c.whole ∙ sum_cut (λ (q : Range). q.2) c.before c.after r ∙ sym (ap (λ (rs : List Range). sum_by (λ (q : Range). q.2) rs + (s.end - s.start)) c.removed);
+          ranges_less = ap (sum_by count_of) c.whole ∙ sum_cut count_of c.before c.after r ∙ sym (ap (λ (rs : List Range). sum_by count_of rs + count_of r) c.removed);
+          order = c.forward;
+          joins = record {
+            order = lower w.start w.end s.start joins.order;
+            touched = ap (λ (rs : List Range). is_touched rs w.file w.end) c.removed ∙ touched-append c.before c.after w.file w.end
+                ∙ still (is_touched c.before w.file w.end) (is_at w.file w.end r) (is_touched c.after w.file w.end) (ends_short s w.file w.end c.forward shorter)
+                (sym (touched-append c.before (r ∷ c.after) w.file w.end) ∙ ap (λ (rs : List Range). is_touched rs w.file w.end) (sym c.whole) ∙ joins.touched);
+          };
+          same = ap (λ (rs : List Range). inserted (range_of (begun w (min w.start s.start))) rs) c.removed
+              ∙ ap (λ (n : Range). inserted n (c.before ++ c.after)) (sym (joined_short w s joins.order c.forward shorter))
+              ∙ sym (inserted-joined c.before c.after (range_of w) r c.spaced c.past near)
+              ∙ ap (inserted (range_of w)) (sym c.whole);
+        }
+      where
+        lower : (a b c : ℕ) → a ≤ b → min a c ≤ b
+        lower a b c le = omega arith
+
+        ends_short : (s : Span) (f p : ℕ) → s.start ≤ s.end → s.end < p → is_at f p (span_of (entry_of s)) ≡ false
+        ends_short s f p a b = grind (arith, nat_tests)
+
+        still : (a b c : Bool) → b ≡ false → (a || (b || c)) ≡ true → (a || c) ≡ true
+        still true b c e t = refl
+        still false b c e t = sym (ap (λ x. x || c) e) ∙ t
+
+        start_len : (ws we ss se : ℕ) → ws ≤ we → ss ≤ se → se < we → max (ws + (we - ws)) (ss + (se - ss)) - min ws ss ≡ we - min ws ss
+        start_len ws we ss se a b c = omega arith
+
+        joined_short : (w s : Span) → w.start ≤ w.end → s.start ≤ s.end → s.end < w.end → joined (range_of w) (span_of (entry_of s)) ≡ range_of (begun w (min w.start s.start))
+        joined_short w s a b c = λ i. (w.file, min w.start s.start, start_len w.start w.end s.start s.end a b c i)
+
+-- what the loop's turn leaves, where the map and the counts are as the calls say
+pub record Turned (es fs : List Entry) (tally : Tally) (w : Span) (start : ℕ) : Type 0 where
+  pub kept : IsKept fs
+  pub counts : Counts tally fs
+  pub joins : Joins (begun w start) fs
+  pub same : inserted (range_of (begun w start)) (spans_of fs) ≡ inserted (range_of w) (spans_of es)
+
+pub turned : (es fs : List Entry) (tally tally' : Tally) (w s : Span) (start : ℕ) → TakenOut es w s → Counts tally es → fs ≡ without s es → start ≡ min w.start s.start
+    → tally'.places + (s.end - s.start) ≡ tally.places → tally'.ranges + count_of (range_of s) ≡ tally.ranges → Turned es fs tally' w start
+turned es fs tally tally' w s start out counts is low places ranges =
+    subst (λ (n : ℕ). Turned es fs tally' w n) (sym low) (subst (λ (xs : List Entry). Turned es xs tally' w (min w.start s.start)) (sym is) (record {
+      kept = out.kept;
+      counts = record {
+        places_counted = less tally'.places tally.places (places_in es) (places_in (without s es)) (s.end - s.start) places counts.places_counted out.places_less;
+        ranges_counted = less tally'.ranges tally.ranges (ranges_in es) (ranges_in (without s es)) (count_of (range_of s)) ranges counts.ranges_counted out.ranges_less;
+      };
+      joins = out.joins;
+      same = out.same;
+    }))
+  where
+    less : (a b c d n : ℕ) → a + n ≡ b → b ≡ c → c ≡ d + n → a ≡ d
+    less a b c d n e f g = omega arith
+
+-- ---- a span is stretched
+pub record Stretched (es : List Entry) (w s : Span) (fs : List Entry) : Type 0 where
+  pub there : lookup (is_key (key_cmp (s.file, s.end))) es ≡ Some s.start
+  pub kept : IsKept fs
+  pub order : s.start ≤ s.end
+  pub places_there : s.end - s.start ≤ places_in es
+  pub ranges_there : count_of (range_of s) ≤ ranges_in es
+  pub places_moved : places_in fs + (s.end - s.start) ≡ places_in es + (s.end - min w.start s.start)
+  pub ranges_moved : ranges_in fs + count_of (range_of s) ≡ ranges_in es + count_of (range_of (begun s (min w.start s.start)))
+  pub spans : spans_of fs ≡ inserted (range_of w) (spans_of es)
+
+pub stretched : (es : List Entry) (w s : Span) → IsKept es → Joins w es → first_at w.file w.start es ≡ Some (entry_of s) → w.end ≤ s.end
+    → Stretched es w s (insert_entry key_cmp es (s.file, s.end) (min w.start s.start))
+stretched es w s kept joins found longer = by_cut (cut_at es (entry_of s) (range_of w) kept found)
+  where
+    by_cut : Cut es (entry_of s) (range_of w) → Stretched es w s (insert_entry key_cmp es (s.file, s.end) (min w.start s.start))
+    by_cut c =
+        let r = span_of (entry_of s) in
+        let start = min w.start s.start in
+        let r' = range_of (begun s start) in
+        let near = reaches es w s joins c in
+        let fits = fits_in w s joins.order c.forward longer near (spaced_parts r c.after (spaced_after c.before (r ∷ c.after) c.spaced)).span in
+        let spans : spans_of (insert_entry key_cmp es (s.file, s.end) (min w.start s.start)) ≡ inserted (range_of w) (spans_of es) =
+        c.restarted start
+        ∙ ap (λ (x : Range). c.before ++ x ∷ c.after) (sym (joined_long w s joins.order c.forward longer near))
+        ∙ sym (inserted-stretched c.before c.after (range_of w) r c.spaced c.past near (no_longer w s joins.order c.forward longer))
+        ∙ ap (inserted (range_of w)) (sym c.whole) in
+        record {
+          there = c.there;
+          kept = record {
+            forward = c.restarted_forward start (lower w.start s.start s.end c.forward);
+            spaced = ap is_spaced spans ∙ is_spaced-inserted (range_of w) (spans_of es) fits kept.spaced;
+          };
+          order = c.forward;
+          places_there = some (λ (q : Range). q.2) c.before c.after r es c.whole;
+          ranges_there = some count_of c.before c.after r es c.whole;
+          places_moved = moved (λ (q : Range). q.2) c.before c.after r r' es _ c.whole (c.restarted start);
+          ranges_moved = moved count_of c.before c.after r r' es _ c.whole (c.restarted start);
+          spans = spans;
+        }
+      where
+        lower : (a b c : ℕ) → b ≤ c → min a b ≤ c
+        lower a b c le = omega arith
+
+        no_longer : (w s : Span) → w.start ≤ w.end → s.start ≤ s.end → w.end ≤ s.end → w.start + (w.end - w.start) ≤ s.start + (s.end - s.start)
+        no_longer w s a b c = omega arith
+
+        some : (f : Range → ℕ) (ps qs : List Range) (r : Range) (es : List Entry) → spans_of es ≡ ps ++ r ∷ qs → f r ≤ sum_by f (spans_of es)
+        some f ps qs r es e = let all = ap (sum_by f) e ∙ sum_cut f ps qs r in omega arith
+
+        moved : (f : Range → ℕ) (ps qs : List Range) (r r' : Range) (es fs : List Entry) → spans_of es ≡ ps ++ r ∷ qs → spans_of fs ≡ ps ++ r' ∷ qs → sum_by f (spans_of fs) + f r ≡ sum_by f (spans_of es) + f r'
+        moved f ps qs r r' es fs e e' =
+            let old = ap (sum_by f) e ∙ sum_cut f ps qs r in
+            let new = ap (sum_by f) e' ∙ sum_cut f ps qs r' in
+            omega arith
+
+        same_file : (w s : Span) → Reaches (range_of w) (span_of (entry_of s)) → w.file ≡ s.file
+        same_file w s near = of_tests w s near.back near.forth
+          where
+            of_tests : (w s : Span) → is_before (span_of (entry_of s)) (range_of w) ≡ false → is_before (range_of w) (span_of (entry_of s)) ≡ false → w.file ≡ s.file
+            of_tests w s a b = grind (arith, nat_tests)
+
+        fits_in : (w s : Span) → w.start ≤ w.end → s.start ≤ s.end → w.end ≤ s.end → Reaches (range_of w) (span_of (entry_of s)) → is_span (span_of (entry_of s)) ≡ true → is_span (range_of w) ≡ true
+        fits_in w s a b c near span = by_parts w s a b c (same_file w s near) span
+          where
+            by_parts : (w s : Span) → w.start ≤ w.end → s.start ≤ s.end → w.end ≤ s.end → w.file ≡ s.file → is_span (span_of (entry_of s)) ≡ true → is_span (range_of w) ≡ true
+            by_parts w s a b c e span = grind (arith, nat_tests)
+
+        start_len : (ws we ss se : ℕ) → ws ≤ we → ss ≤ se → we ≤ se → max (ws + (we - ws)) (ss + (se - ss)) - min ws ss ≡ se - min ws ss
+        start_len ws we ss se a b c = omega arith
+
+        joined_long : (w s : Span) → w.start ≤ w.end → s.start ≤ s.end → w.end ≤ s.end → Reaches (range_of w) (span_of (entry_of s)) → joined (range_of w) (span_of (entry_of s)) ≡ range_of (begun s (min w.start s.start))
+        joined_long w s a b c near = λ i. (same_file w s near i, min w.start s.start, start_len w.start w.end s.start s.end a b c i)
+
+-- what is counted after it
+pub counts_moved : (es fs : List Entry) (tally less more : Tally) (w s : Span) → Stretched es w s fs → Counts tally es
+    → less.places + (s.end - s.start) ≡ tally.places → less.ranges + count_of (range_of s) ≡ tally.ranges
+    → more.places ≡ less.places + (s.end - min w.start s.start) → more.ranges ≡ less.ranges + count_of (range_of (begun s (min w.start s.start))) → Counts more fs
+counts_moved es fs tally less more w s out counts a b c d = record {
+  places_counted = moved tally.places less.places more.places (places_in es) (places_in fs) (s.end - s.start) (s.end - min w.start s.start) a c counts.places_counted out.places_moved;
+  ranges_counted = moved tally.ranges less.ranges more.ranges (ranges_in es) (ranges_in fs) (count_of (range_of s)) (count_of (range_of (begun s (min w.start s.start)))) b d counts.ranges_counted out.ranges_moved;
+}
+  where
+    moved : (t l m old new n k : ℕ) → l + n ≡ t → m ≡ l + k → t ≡ old → new + n ≡ old + k → m ≡ new
+    moved t l m old new n k a b c d = omega arith
+
+-- ---- an empty span is made
+pub record Held (es : List Entry) (file at : ℕ) (fs : List Entry) : Type 0 where
+  pub kept : IsKept fs
+  pub places_stay : places_in fs ≡ places_in es
+  pub ranges_stay : ranges_in fs ≡ ranges_in es
+  pub spans : spans_of fs ≡ inserted (file, at, 0) (spans_of es)
+
+pub held : (es : List Entry) (file at : ℕ) → is_span (file, at, 0) ≡ true → IsKept es → is_touched (spans_of es) file at ≡ false → Held es file at (insert_entry key_cmp es (file, at) at)
+held es file at fits kept free = by_cases (first_at file at es) refl
+  where
+    -- the new span stands between those that end before it and the others
+    at_gap : (before after : List Entry) → es ≡ before ++ after → AllEnd before file at → IsPast file at after → is_first (file, at, 0) (spans_of after) ≡ true → Held es file at (insert_entry key_cmp es (file, at) at)
+    at_gap before after whole past later first =
+        let new : Entry = ((file, at), at) in
+        let is : insert_entry key_cmp es (file, at) at ≡ before ++ new ∷ after = ap (λ (xs : List Entry). insert_entry key_cmp xs (file, at) at) whole ∙ entry_new file at before after at past later in
+        let both = are_forward-append before after (ap are_forward (sym whole) ∙ kept.forward) in
+        let split : spans_of es ≡ spans_of before ++ spans_of after = ap spans_of whole ∙ spans_of-append before after in
+        let empty : span_of new ≡ (file, at, 0) = (λ i. (file, at, nothing at i)) in
+        let spans : spans_of (insert_entry key_cmp es (file, at) at) ≡ inserted (file, at, 0) (spans_of es) =
+        ap spans_of is ∙ spans_of-append before (new ∷ after)
+        ∙ ap (λ (x : Range). spans_of before ++ x ∷ spans_of after) empty
+        ∙ sym (inserted-alone (spans_of before) (spans_of after) (file, at, 0) (spans_before before (file, at, 0) both.0 past) first)
+        ∙ ap (inserted (file, at, 0)) (sym split) in
+        let sums = ap spans_of is ∙ spans_of-append before (new ∷ after) ∙ ap (λ (x : Range). spans_of before ++ x ∷ spans_of after) empty in
+        record {
+          kept = record {
+            forward = ap are_forward is ∙ forward_both before (new ∷ after) both.0 (and_from (nat_le at at) (are_forward after) (le-leb at at (omega arith)) both.1);
+            spaced = ap is_spaced spans ∙ is_spaced-inserted (file, at, 0) (spans_of es) fits kept.spaced;
+          };
+          places_stay = same_sum (λ (q : Range). q.2) (spans_of before) (spans_of after) es _ split sums refl;
+          ranges_stay = same_sum count_of (spans_of before) (spans_of after) es _ split sums refl;
+          spans = spans;
+        }
+      where
+        nothing : (n : ℕ) → n - n ≡ 0
+        nothing n = omega arith
+
+        same_sum : (f : Range → ℕ) (ps qs : List Range) (es fs : List Entry) → spans_of es ≡ ps ++ qs → spans_of fs ≡ ps ++ (file, at, 0) ∷ qs → f (file, at, 0) ≡ 0 → sum_by f (spans_of fs) ≡ sum_by f (spans_of es)
+        same_sum f ps qs es fs e e' zero_at =
+            let old = ap (sum_by f) e in
+            let new = ap (sum_by f) e' ∙ sum_cut f ps qs (file, at, 0) in
+            omega arith
+
+    by_cases : (o : Option Entry) → first_at file at es ≡ o → Held es file at (insert_entry key_cmp es (file, at) at)
+    by_cases None is = at_gap es [] (sym (append_nil es)) (all_end file at es is) tt refl
+      where
+        append_nil : (xs : List Entry) → xs ++ [] ≡ xs
+        append_nil [] = refl
+        append_nil (x ∷ xs) = ap (λ (ys : List Entry). x ∷ ys) (append_nil xs)
+    by_cases (Some e) is =
+        let f = found_at file at es e is in
+        let forward = (and_parts (nat_le e.1 e.0.1) (are_forward f.after) (are_forward-append f.before (e ∷ f.after) (ap are_forward (sym f.whole) ∙ kept.forward)).1).0 in
+        let apart = sym (touched_by_first es e file at kept is) ∙ free in
+        at_gap f.before (e ∷ f.after) f.whole f.past (later_key e forward apart f.here) (later_span e forward apart f.here)
+      where
+        later_key : (e : Entry) → nat_le e.1 e.0.1 ≡ true → (e.0.0 == file && nat_le e.1 at) ≡ false → ends_before e file at ≡ false → (nat_lt file e.0.0 || (e.0.0 == file && nat_lt at e.0.1)) ≡ true
+        later_key e a b c = grind (arith, nat_tests)
+
+        later_span : (e : Entry) → nat_le e.1 e.0.1 ≡ true → (e.0.0 == file && nat_le e.1 at) ≡ false → ends_before e file at ≡ false → is_before (file, at, 0) (span_of e) ≡ true
+        later_span e a b c = grind (arith, nat_tests)
+
+-- ---- an empty span is taken out
+pub record LetGo (es fs : List Entry) : Type 0 where
+  pub kept : IsKept fs
+  pub places_stay : places_in fs ≡ places_in es
+  pub ranges_stay : ranges_in fs ≡ ranges_in es
+  pub shown_stays : shown (spans_of fs) ≡ shown (spans_of es)
+
+shown_without : (ps qs : List Range) (r : Range) → r.2 ≡ 0 → shown (ps ++ r ∷ qs) ≡ shown (ps ++ qs)
+shown_without [] qs r e = cond-false (nat_lt 0 r.2) (r ∷ shown qs) (shown qs) (grind (arith, nat_tests, e))
+shown_without (p ∷ ps) qs r e = ap (λ (rs : List Range). cond (nat_lt 0 p.2) (p ∷ rs) rs) (shown_without ps qs r e)
+
+pub let_go : (es : List Entry) (s : Span) (file at : ℕ) → IsKept es → first_at file at es ≡ Some (entry_of s) → s.start ≡ s.end → LetGo es (without s es)
+let_go es s file at kept found empty = by_cut (cut_at es (entry_of s) (file, at, 0) kept found)
+  where
+    by_cut : Cut es (entry_of s) (file, at, 0) → LetGo es (without s es)
+    by_cut c =
+        let r = span_of (entry_of s) in
+        let none : s.end - s.start ≡ 0 = omega (arith, empty) in
+        record {
+          kept = record { forward = c.removed_forward; spaced = ap is_spaced c.removed ∙ spaced_without c.before c.after r c.spaced };
+          places_stay = same_sum (λ (q : Range). q.2) c none;
+          ranges_stay = same_sum count_of c (ap (λ n. cond (nat_lt 0 n) 1 0) none);
+          shown_stays = ap shown c.removed ∙ sym (shown_without c.before c.after r none) ∙ sym (ap shown c.whole);
+        }
+      where
+        same_sum : (f : Range → ℕ) (c : Cut es (entry_of s) (file, at, 0)) → f (span_of (entry_of s)) ≡ 0 → sum_by f (spans_of (without s es)) ≡ sum_by f (spans_of es)
+        same_sum f c e =
+            let new = ap (sum_by f) c.removed in
+            let old = ap (sum_by f) c.whole ∙ sum_cut f c.before c.after (span_of (entry_of s)) in
+            omega (arith, e)
