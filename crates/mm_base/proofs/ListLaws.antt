@@ -93,3 +93,7 @@ list_set w n i bytes_of of x bytes len law at_i room =
     let inside : w * i ≤ length bytes = omega (arith, mul-le-mul_left w below) in
     let each = value_set w n i bytes_of of x bytes xs len law count at_i inside (λ j at_j. get_or-map-range_with_len value 0 n j j x at_j (omega arith)) in
     sym (fill_by_all (λ j. of (part (w * j) w (overwritten (w * i) (bytes_of x) bytes))) (set xs i x) n x (length-set xs i x ∙ count) (λ k at_k. each k at_k (cases_lt k i) (cases_lt i k)))
+
+pub length-list_of : {X : Type 0} (w n : ℕ) (of : List ℕ → X) (bytes : List ℕ) → length (list_of w of n bytes) ≡ n
+unfolding list_of
+length-list_of w n of bytes = length-map-range_with_len (λ i. of (part (w * i) w bytes)) 0 n

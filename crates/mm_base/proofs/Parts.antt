@@ -78,6 +78,7 @@ length_joined xs ys = length-append xs ys
 pub puts : {X : Type 0} (n : ℕ) (bytes_of : X → List ℕ) (of : List ℕ → X) (at : ℕ) (x : X) (old new : List ℕ)
     → at ≤ length old → length (bytes_of x) ≡ n → of (bytes_of x) ≡ x → new ≡ overwritten at (bytes_of x) old → Puts n bytes_of of at x old new
 puts n bytes_of of at x old new le len law is = record {
+  long = len;
   spelled = is;
   again = ap (λ (b : List ℕ). of (part at n b)) is ∙ ap of (part-overwritten at n (bytes_of x) old le len) ∙ law;
   elsewhere = record {
@@ -117,6 +118,19 @@ joined_parts k m xs len = ap (λ (ys : List ℕ). take k xs ++ ys) (take_all m (
 pub overwritten_whole : (new bytes : List ℕ) → length new ≡ length bytes → overwritten 0 new bytes ≡ new
 unfolding overwritten
 overwritten_whole new bytes len = ap (λ (ys : List ℕ). new ++ ys) (drop_all (length new) bytes (omega (arith, len))) ∙ append-nil new
+
+-- a frame that was written, as a part of the bytes, and in an array of its own
+pub puts_part : {X : Type 0} (n : ℕ) (bytes_of : X → List ℕ) (of : List ℕ → X) (at : ℕ) (x : X) (old new : List ℕ) → at ≤ length old → Puts n bytes_of of at x old new → part at n new ≡ bytes_of x
+puts_part n bytes_of of at x old new le put = ap (part at n) put.spelled ∙ part-overwritten at n (bytes_of x) old le put.long
+
+pub record Whole {X : Type 0} (bytes_of : X → List ℕ) (of : List ℕ → X) (x : X) (new : List ℕ) : Type 0 where
+  pub spelled : new ≡ bytes_of x
+  pub again : of new ≡ x
+
+pub puts_whole : {X : Type 0} (n : ℕ) (bytes_of : X → List ℕ) (of : List ℕ → X) (x : X) (old new : List ℕ) → length old ≡ n → Puts n bytes_of of 0 x old new → Whole bytes_of of x new
+puts_whole n bytes_of of x old new len put =
+    let is : new ≡ bytes_of x = put.spelled ∙ overwritten_whole (bytes_of x) old (put.long ∙ sym len) in
+    record { spelled = is; again = sym (ap of (part_whole n new (ap length is ∙ put.long))) ∙ put.again }
 
 -- a write inside a part
 pub part_around : (at n k : ℕ) (new bytes : List ℕ) → k + length new ≤ n → at + n ≤ length bytes → part at n (overwritten (at + k) new bytes) ≡ overwritten k new (part at n bytes)

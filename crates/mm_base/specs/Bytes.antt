@@ -14,8 +14,9 @@ pub record SameOutside (at n : ℕ) (old new : List ℕ) : Type 0 where
   pub before : (q m : ℕ) → q + m ≤ at → part q m new ≡ part q m old
   pub behind : (q m : ℕ) → at + n ≤ q → part q m new ≡ part q m old
 
--- A writer of a frame of n bytes: the value's bytes stand from at on, the reader's function gives the value back, and nothing else changes.
+-- A writer of a frame of n bytes: the value's bytes, n of them, stand from at on, the reader's function gives the value back, and nothing else changes.
 pub record Puts {X : Type 0} (n : ℕ) (bytes_of : X → List ℕ) (of : List ℕ → X) (at : ℕ) (x : X) (old new : List ℕ) : Type 0 where
+  pub long : length (bytes_of x) ≡ n
   pub spelled : new ≡ overwritten at (bytes_of x) old
   pub again : of (part at n new) ≡ x
   pub elsewhere : SameOutside at n old new

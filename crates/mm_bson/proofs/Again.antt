@@ -13,9 +13,9 @@ use Rattle.mm_bson.specs.declared.fault.BsonFault.{BsonFault}
 use Rattle.mm_bson.specs.declared.kind.Kind.{Kind}
 use Rattle.mm_bson.specs.declared.kind.Kind.TheVariants as kind
 use Rattle.mm_bson.specs.Tree.{Tree, min_key, null, int32, int64, string, document, array, binary, object_id, boolean, date, timestamp, max_key, Elements, no_elements, element, Values, no_values, item, tree_depth, depth, values_depth, count}
-use Rattle.mm_bson.specs.Named.{named, unnamed}
+use Rattle.mm_bson.specs.Named.{named}
 use Rattle.mm_bson.specs.Spelling.{type_byte, framed, text_spelling, value_spelling, elements_spelling, values_spelling, spelling, IsName, HasNoZero, IsValue, AreElements, AreValues, IsDocument}
-use Rattle.mm_bson.specs.Reading.{Reader, is_due, next_due, type_at, number_at, name_at, string_at, binary_at, boolean_at, len_at, document_at, value_at, element_at, elements_at, body, nested_at, whole}
+use Rattle.mm_bson.specs.Reading.{Reader, is_due, type_at, number_at, name_at, string_at, binary_at, boolean_at, len_at, document_at, value_at, element_at, elements_at, body, nested_at, whole}
 use Rattle.mm_bson.proofs.Fields.{wide32, wide64, number_again}
 use Rattle.mm_bson.proofs.Numbered.{unnamed_again, numbered_spelling, numeral_is_name, is_itself}
 use Rattle.std.specs.Fmt.{decimal}
@@ -244,3 +244,13 @@ whole_again es h =
     let short : ltb 0x100_0000 n ≡ false = le-ltb _ _ h.short in
     let read = nested_from 99 None 0 es (λ e. elements_again es 99 0 e (length (elements_spelling es)) h.elements (omega (arith, h.levels)) (omega (arith, spelling_len es, small)) (omega arith)) in
     rw (number, some, same, short) read
+
+-- two documents of the same bytes are one
+pub spelled_once : (d e : Elements) → IsDocument d → IsDocument e → spelling d ≡ spelling e → d ≡ e
+spelled_once d e h g same = read_once d e (sym (whole_again d h) ∙ ap whole same ∙ whole_again e g)
+  where
+    read : Elements → Result Elements BsonFault
+    read x = Ok x
+
+    read_once : (x y : Elements) → read x ≡ read y → x ≡ y
+    read_once x y p = cc

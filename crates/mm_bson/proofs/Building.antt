@@ -1,14 +1,14 @@
 -- One more element behind those of a document, and one more value behind those of an array.
-use Rattle.std.proofs.Common.{◌≡◌, ℕ, suc, ◌+◌, ◌-◌, ◌<◌, ◌≤◌, ◌^◌, List, [], ◌∷◌, ◌++◌, length, take, drop, max, refl, sym, ap, ◌∙◌, append_assoc, append-nil, arith}
+use Rattle.std.proofs.Common.{◌≡◌, ℕ, suc, ◌+◌, ◌-◌, ◌<◌, ◌^◌, List, [], ◌∷◌, ◌++◌, length, take, drop, max, refl, sym, ap, ◌∙◌, append_assoc, append-nil, arith}
 use Rattle.std.specs.Prelude.{slice_set}
 use Rattle.std.specs.Int.{w32, to_le_bytes}
 use Rattle.std.specs.Fmt.{decimal}
 use Rattle.std.proofs.Math.Seq.{set-append_seam}
 use Rattle.std.proofs.Math.ListN.{drop_of_length-le}
-use Rattle.std.proofs.lemmas.List.{take_all, drop_at, length-append, length-set}
+use Rattle.std.proofs.lemmas.List.{take_all, drop_at, length-append}
 use Rattle.mm_bson.specs.Tree.{Tree, tree_depth, depth, values_depth, Elements, no_elements, element, Values, no_values, item, append, append_values, count}
 use Rattle.mm_bson.specs.Spelling.{type_byte, framed, spelling, array_spelling, value_spelling, element_spelling, element_len, elements_spelling, values_spelling, IsName, IsValue, AreElements, AreValues}
-use Rattle.mm_bson.specs.Built.{IsBuilt, IsBuiltArray, HoldsDocument, HoldsArray}
+use Rattle.mm_bson.specs.Built.{HoldsDocument, HoldsArray}
 
 -- ---- bytes
 

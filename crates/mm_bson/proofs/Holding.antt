@@ -1,9 +1,9 @@
 -- What was read is what a document or array in memory holds.
 use Rattle.std.proofs.Common.{◌≡◌, ℕ, ◌<◌, ◌≤◌, ◌^◌, List, length, Some, None, refl, sym, ap, ◌∙◌, arith}
 use Rattle.mm_bson.specs.Tree.{Elements, depth, Values, values_depth}
-use Rattle.mm_bson.specs.Named.{named, unnamed}
-use Rattle.mm_bson.specs.Spelling.{framed, spelling, array_spelling, elements_spelling, values_spelling, AreValues}
-use Rattle.mm_bson.specs.Built.{IsBuilt, IsBuiltArray, HoldsDocument, HoldsArray}
+use Rattle.mm_bson.specs.Named.{named}
+use Rattle.mm_bson.specs.Spelling.{framed, spelling, array_spelling}
+use Rattle.mm_bson.specs.Built.{HoldsDocument, HoldsArray}
 use Rattle.mm_bson.proofs.Numbered.{unnamed_again, numbered_spelling, numbered_depth, numbered_values}
 use Rattle.mm_bson.proofs.Takes.{IsRead}
 

@@ -1,5 +1,5 @@
 -- The names of a path, one after the other.
-use Rattle.std.proofs.Common.{◌≡◌, ℕ, zero, suc, ◌+◌, ◌<◌, ◌≤◌, ◌==◌, eqb, ltb, Bool, true, false, cond, not, List, [], ◌∷◌, length, take, drop, Option, Some, None, max, refl, sym, ap, ◌∙◌, arith}
+use Rattle.std.proofs.Common.{◌≡◌, ℕ, suc, ◌+◌, ◌<◌, ◌≤◌, ◌==◌, eqb, ltb, Bool, true, false, cond, not, List, [], ◌∷◌, length, take, drop, Option, Some, None, max, refl, sym, ap, ◌∙◌, arith}
 use Rattle.std.specs.Prelude.{position, option_and_then, option_map, IfSome}
 use Rattle.std.specs.Borrow.{Bor}
 use Rattle.mm_bson.specs.declared.doc.Value.{Value}

@@ -1,7 +1,7 @@
 -- A fault lies inside the document that is read.
-use Rattle.std.proofs.Common.{◌≡◌, ℕ, zero, suc, ◌+◌, ◌-◌, ◌^◌, ◌<◌, ◌≤◌, Bool, true, false, cond, eqb, ltb, ◌||◌, List, [], ◌∷◌, ◌++◌, length, get_or, take, drop, Option, Some, None, Result, Ok, Err, refl, sym, ap, subst, ◌∙◌, ◌⊎◌, inl, inr, arith}
+use Rattle.std.proofs.Common.{◌≡◌, ℕ, zero, suc, ◌+◌, ◌-◌, ◌<◌, ◌≤◌, Bool, true, false, cond, eqb, ltb, ◌||◌, List, [], ◌∷◌, ◌++◌, length, get_or, take, drop, Option, Some, None, Result, Ok, Err, refl, ap, subst, ◌∙◌, ◌⊎◌, inl, inr, arith}
 use Rattle.std.specs.Prelude.{position, IfErr}
-use Rattle.std.specs.Int.{Width, w32, w64, byte_len, from_le_bytes, to_le_bytes, cast_signed}
+use Rattle.std.specs.Int.{Width, w32, w64, byte_len, from_le_bytes, cast_signed}
 use Rattle.std.specs.Str.{is_utf8}
 use Rattle.std.proofs.lemmas.Bool.{ltb-true, ltb-false}
 use Rattle.std.proofs.lemmas.List.{length-append, length-take, length-drop}
@@ -9,13 +9,13 @@ use Rattle.mm_bson.specs.declared.fault.BsonFault.{BsonFault}
 use Rattle.mm_bson.specs.declared.fault.BsonFault.TheVariants.{BadLength, BadType, BadUtf8, BadName, TooDeep, TooLong, NoMemory}
 use Rattle.mm_bson.specs.declared.kind.Kind.{Kind}
 use Rattle.mm_bson.specs.declared.kind.Kind.TheVariants as kind
-use Rattle.mm_bson.specs.Tree.{Tree, min_key, null, int32, int64, string, document, array, binary, object_id, boolean, date, timestamp, max_key, Elements, no_elements, element}
+use Rattle.mm_bson.specs.Tree.{int32, int64, string, document, array, binary, object_id, boolean, date, timestamp, Elements, element}
 use Rattle.mm_bson.specs.Named.{unnamed}
 use Rattle.mm_bson.specs.Spelling.{type_byte, value_spelling}
-use Rattle.mm_bson.specs.Reading.{◌>>=◌, Fails, Gives, Reader, is_due, next_due, kind_of, kind_at, type_at, number_at, name_to, name_at, text_to, bytes_at, binary_at, boolean_at, string_at, len_at, document_at, value_at, element_at, elements_at, body, ended, nested_at, IsFramed, whole}
+use Rattle.mm_bson.specs.Reading.{◌>>=◌, Gives, Reader, is_due, next_due, kind_of, kind_at, type_at, number_at, name_to, name_at, text_to, bytes_at, binary_at, boolean_at, string_at, len_at, document_at, value_at, element_at, elements_at, body, ended, nested_at, IsFramed, whole}
 use Rattle.mm_bson.specs.Faults.{LiesIn, IsExplained}
-use Rattle.mm_bson.proofs.Fields.{IsBytes, IsBytes-take, IsBytes-drop, Takes, wide32, number_takes}
-use Rattle.mm_bson.proofs.Takes.{Reads, TakesElement, type_takes, name_takes, or_false, number_ok, len_ok, element_takes, nested_takes}
+use Rattle.mm_bson.proofs.Fields.{IsBytes, IsBytes-take, IsBytes-drop}
+use Rattle.mm_bson.proofs.Takes.{Reads, type_takes, name_takes, or_false, number_ok, len_ok, element_takes, nested_takes}
 
 wider : (lo hi lo' hi' : ℕ) (e : BsonFault) → lo' ≤ lo → hi ≤ hi' → LiesIn lo hi e → LiesIn lo' hi' e
 wider lo hi lo' hi' (BadLength at) p q h = (omega arith, omega arith)

@@ -15,10 +15,10 @@ use Rattle.mm_bson.specs.declared.fault.BsonFault.TheVariants.{BadLength, BadUtf
 use Rattle.mm_bson.specs.declared.kind.Kind.{Kind}
 use Rattle.mm_bson.specs.declared.kind.Kind.TheVariants as kind
 use Rattle.mm_bson.specs.Tree.{Tree, min_key, null, int32, int64, string, document, array, binary, object_id, boolean, date, timestamp, max_key, Elements, no_elements, element, Values, tree_depth, depth}
-use Rattle.mm_bson.specs.Named.{named, unnamed, AreNumbered}
+use Rattle.mm_bson.specs.Named.{unnamed, AreNumbered}
 use Rattle.mm_bson.specs.Spelling.{type_byte, framed, text_spelling, value_spelling, elements_spelling, values_spelling, spelling, IsName, HasNoZero, IsValue, AreElements, IsDocument}
 use Rattle.mm_bson.specs.Reading.{◌>>=◌, Reader, is_due, next_due, kind_of, kind_at, type_at, number_at, name_to, name_at, text_to, bytes_at, binary_at, boolean_at, string_at, len_at, document_at, value_at, element_at, elements_at, body, ended, nested_at, IsFramed, whole, Gives}
-use Rattle.mm_bson.proofs.Fields.{IsBytes, IsBytes-take, IsBytes-drop, bind_ok, guard_ok, passed_ok, ok_is, Takes, Takes-then, wide32, wide64, number_takes}
+use Rattle.mm_bson.proofs.Fields.{IsBytes, IsBytes-take, IsBytes-drop, bind_ok, guard_ok, passed_ok, ok_is, ok_gives, Takes, Takes-then, wide32, wide64, number_takes}
 use Rattle.mm_bson.proofs.Numbered.{name_is, named_again, numbered_spelling, numbered_depth, numbered_values}
 
 IsBytes-tail : (b : ℕ) (bytes : List ℕ) → IsBytes (b ∷ bytes) → IsBytes bytes
@@ -98,7 +98,7 @@ string_takes end bytes x fits e =
     let second : Takes rest (text ++ 0 ∷ []) (drop n rest) = record { parts = sym (take-append-drop n rest) ∙ ap (λ (y : List ℕ). y ++ drop n rest) cut; rest_fits = IsBytes-drop n rest t.0.rest_fits } in
     let both = Takes-then bytes (to_le_bytes w32 n) rest (text ++ 0 ∷ []) (drop n rest) t.0 second in
     let whole_text : Takes bytes (text_spelling text) (drop n rest) = subst (λ (k : ℕ). Takes bytes (to_le_bytes w32 k ++ (text ++ 0 ∷ [])) (drop n rest)) (sym text_len) both in
-    subst (λ (y : List ℕ × List ℕ). Takes bytes (text_spelling y.0) y.1 × (is_utf8 y.0 ≡ true)) (ok_is (text, drop n rest) x q.1) (whole_text, q.0)
+    ok_gives (λ (y : List ℕ × List ℕ). Takes bytes (text_spelling y.0) y.1 × (is_utf8 y.0 ≡ true)) (text, drop n rest) x q.1 (whole_text, q.0)
 
 -- ---- values, over what reading inside gives
 
@@ -175,14 +175,14 @@ document_takes read levels due end bytes x reads fits e =
     let es : Elements = r.0 in
     let given = reads.gives due (end - length bytes) (take n bytes) es (IsBytes-take n bytes fits) front.0 r.1 in
     let parts : bytes ≡ spelling es ++ drop n bytes = sym (take-append-drop n bytes) ∙ ap (λ (y : List ℕ). y ++ drop n bytes) given.spelled in
-    subst (λ (y : Elements × List ℕ). TakesDocument levels due bytes y.0 y.1) (ok_is (es, drop n bytes) x r.2)
+    ok_gives (λ (y : Elements × List ℕ). TakesDocument levels due bytes y.0 y.1) (es, drop n bytes) x r.2
     (record { takes = record { parts = parts; rest_fits = IsBytes-drop n bytes fits }; elements = given.elements; shallow = given.shallow; numbered = given.numbered })
 
 bytes_take : (n end : ℕ) (bytes : List ℕ) (x : List ℕ × List ℕ) → IsBytes bytes → bytes_at n end bytes ≡ Ok x → Takes bytes x.0 x.1 × (length x.0 ≡ n)
 bytes_take n end bytes x fits e =
     let g = guard_ok (ltb (length bytes) n) (BadLength (end - length bytes)) (Ok (take n bytes, drop n bytes)) x e in
     let long : n ≤ length bytes = ltb-false _ _ g.0 in
-    subst (λ (y : List ℕ × List ℕ). Takes bytes y.0 y.1 × (length y.0 ≡ n)) (ok_is (take n bytes, drop n bytes) x g.1)
+    ok_gives (λ (y : List ℕ × List ℕ). Takes bytes y.0 y.1 × (length y.0 ≡ n)) (take n bytes, drop n bytes) x g.1
     (record { parts = sym (take-append-drop n bytes); rest_fits = IsBytes-drop n bytes fits }, omega (arith, length-take n bytes))
 
 first_byte : (bytes : List ℕ) → 0 < length bytes → bytes ≡ get_or bytes 0 0 ∷ drop 1 bytes
@@ -205,7 +205,7 @@ binary_takes end bytes x fits e =
     let len : length (take n after) ≡ n = omega (arith, length-take n after, length-drop 1 rest) in
     let second : Takes rest (get_or rest 0 0 ∷ take n after) (drop n after) = record { parts = first ∙ ap (λ (y : List ℕ). get_or rest 0 0 ∷ y) (sym (take-append-drop n after)); rest_fits = IsBytes-drop n after after_fits } in
     let both = Takes-then bytes (to_le_bytes w32 n) rest (get_or rest 0 0 ∷ take n after) (drop n after) t.0 second in
-    subst (λ (y : (ℕ × List ℕ) × List ℕ). Takes bytes (to_le_bytes w32 (length y.0.1) ++ (y.0.0 ∷ y.0.1)) y.1 × (y.0.0 < 256)) (ok_is ((get_or rest 0 0, take n after), drop n after) x g.1)
+    ok_gives (λ (y : (ℕ × List ℕ) × List ℕ). Takes bytes (to_le_bytes w32 (length y.0.1) ++ (y.0.0 ∷ y.0.1)) y.1 × (y.0.0 < 256)) ((get_or rest 0 0, take n after), drop n after) x g.1
     (subst (λ (k : ℕ). Takes bytes (to_le_bytes w32 k ++ (get_or rest 0 0 ∷ take n after)) (drop n after)) (sym len) both, t.0.rest_fits 0)
 
 abbrev bit : Bool → ℕ
@@ -214,8 +214,8 @@ bit b = cond b 1 0
 boolean_takes : (end : ℕ) (bytes : List ℕ) (x : Bool × List ℕ) → IsBytes bytes → boolean_at end bytes ≡ Ok x → Takes bytes (bit x.0 ∷ []) x.1
 unfolding boolean_at
 boolean_takes end [] x fits e = absurd cc
-boolean_takes end (zero ∷ bytes) x fits e = subst (λ (y : Bool × List ℕ). Takes (0 ∷ bytes) (bit y.0 ∷ []) y.1) (ok_is (false, bytes) x e) (record { parts = refl; rest_fits = IsBytes-tail 0 bytes fits })
-boolean_takes end (suc zero ∷ bytes) x fits e = subst (λ (y : Bool × List ℕ). Takes (1 ∷ bytes) (bit y.0 ∷ []) y.1) (ok_is (true, bytes) x e) (record { parts = refl; rest_fits = IsBytes-tail 1 bytes fits })
+boolean_takes end (zero ∷ bytes) x fits e = ok_gives (λ (y : Bool × List ℕ). Takes (0 ∷ bytes) (bit y.0 ∷ []) y.1) (false, bytes) x e (record { parts = refl; rest_fits = IsBytes-tail 0 bytes fits })
+boolean_takes end (suc zero ∷ bytes) x fits e = ok_gives (λ (y : Bool × List ℕ). Takes (1 ∷ bytes) (bit y.0 ∷ []) y.1) (true, bytes) x e (record { parts = refl; rest_fits = IsBytes-tail 1 bytes fits })
 boolean_takes end (suc (suc b) ∷ bytes) x fits e =
     let not_zero : eqb (suc (suc b)) 0 ≡ false = grind (arith, nat_tests) in
     let not_one : eqb (suc (suc b)) 1 ≡ false = grind (arith, nat_tests) in
@@ -234,7 +234,7 @@ value_takes read levels kind.Int32 end bytes x reads fits e =
       value = sfits_to_z (record { fits = t.1 });
       shallow = omega arith;
     } in
-    subst (λ (y : Tree × List ℕ). TakesValue levels bytes y.0 y.1 × (kind_of (type_byte y.0) ≡ Some kind.Int32)) (ok_is (int32 (cast_signed w32 b.0.0), b.0.1) x b.2) (made, refl)
+    ok_gives (λ (y : Tree × List ℕ). TakesValue levels bytes y.0 y.1 × (kind_of (type_byte y.0) ≡ Some kind.Int32)) (int32 (cast_signed w32 b.0.0), b.0.1) x b.2 (made, refl)
 value_takes read levels kind.Int64 end bytes x reads fits e =
     let b = bind_ok (number_at w64 end bytes) (λ n. Ok (int64 (cast_signed w64 n.0), n.1)) x e in
     let t = number_takes w64 (2 ^ 64) wide64 end bytes b.0.0 b.0.1 fits b.1 in
@@ -244,7 +244,7 @@ value_takes read levels kind.Int64 end bytes x reads fits e =
       value = sfits_to_z (record { fits = t.1 });
       shallow = omega arith;
     } in
-    subst (λ (y : Tree × List ℕ). TakesValue levels bytes y.0 y.1 × (kind_of (type_byte y.0) ≡ Some kind.Int64)) (ok_is (int64 (cast_signed w64 b.0.0), b.0.1) x b.2) (made, refl)
+    ok_gives (λ (y : Tree × List ℕ). TakesValue levels bytes y.0 y.1 × (kind_of (type_byte y.0) ≡ Some kind.Int64)) (int64 (cast_signed w64 b.0.0), b.0.1) x b.2 (made, refl)
 value_takes read levels kind.Date end bytes x reads fits e =
     let b = bind_ok (number_at w64 end bytes) (λ n. Ok (date (cast_signed w64 n.0), n.1)) x e in
     let t = number_takes w64 (2 ^ 64) wide64 end bytes b.0.0 b.0.1 fits b.1 in
@@ -254,7 +254,7 @@ value_takes read levels kind.Date end bytes x reads fits e =
       value = sfits_to_z (record { fits = t.1 });
       shallow = omega arith;
     } in
-    subst (λ (y : Tree × List ℕ). TakesValue levels bytes y.0 y.1 × (kind_of (type_byte y.0) ≡ Some kind.Date)) (ok_is (date (cast_signed w64 b.0.0), b.0.1) x b.2) (made, refl)
+    ok_gives (λ (y : Tree × List ℕ). TakesValue levels bytes y.0 y.1 × (kind_of (type_byte y.0) ≡ Some kind.Date)) (date (cast_signed w64 b.0.0), b.0.1) x b.2 (made, refl)
 value_takes read levels kind.Timestamp end bytes x reads fits e =
     let a = bind_ok (number_at w32 end bytes) (λ i. number_at w32 end i.1 >>= λ s. Ok (timestamp s.0 i.0, s.1)) x e in
     let b = bind_ok (number_at w32 end a.0.1) (λ s. Ok (timestamp s.0 a.0.0, s.1)) x a.2 in
@@ -265,40 +265,40 @@ value_takes read levels kind.Timestamp end bytes x reads fits e =
       value = (u.1, t.1);
       shallow = omega arith;
     } in
-    subst (λ (y : Tree × List ℕ). TakesValue levels bytes y.0 y.1 × (kind_of (type_byte y.0) ≡ Some kind.Timestamp)) (ok_is (timestamp b.0.0 a.0.0, b.0.1) x b.2) (made, refl)
+    ok_gives (λ (y : Tree × List ℕ). TakesValue levels bytes y.0 y.1 × (kind_of (type_byte y.0) ≡ Some kind.Timestamp)) (timestamp b.0.0 a.0.0, b.0.1) x b.2 (made, refl)
 value_takes read levels kind.ObjectId end bytes x reads fits e =
     let b = bind_ok (bytes_at 12 end bytes) (λ b. Ok (object_id b.0, b.1)) x e in
     let t = bytes_take 12 end bytes b.0 fits b.1 in
     let made : TakesValue levels bytes (object_id b.0.0) b.0.1 = record { takes = t.0; value = t.1; shallow = omega arith } in
-    subst (λ (y : Tree × List ℕ). TakesValue levels bytes y.0 y.1 × (kind_of (type_byte y.0) ≡ Some kind.ObjectId)) (ok_is (object_id b.0.0, b.0.1) x b.2) (made, refl)
+    ok_gives (λ (y : Tree × List ℕ). TakesValue levels bytes y.0 y.1 × (kind_of (type_byte y.0) ≡ Some kind.ObjectId)) (object_id b.0.0, b.0.1) x b.2 (made, refl)
 value_takes read levels kind.Binary end bytes x reads fits e =
     let b = bind_ok (binary_at end bytes) (λ b. Ok (binary b.0.0 b.0.1, b.1)) x e in
     let t = binary_takes end bytes b.0 fits b.1 in
     let made : TakesValue levels bytes (binary b.0.0.0 b.0.0.1) b.0.1 = record { takes = t.0; value = t.1; shallow = omega arith } in
-    subst (λ (y : Tree × List ℕ). TakesValue levels bytes y.0 y.1 × (kind_of (type_byte y.0) ≡ Some kind.Binary)) (ok_is (binary b.0.0.0 b.0.0.1, b.0.1) x b.2) (made, refl)
+    ok_gives (λ (y : Tree × List ℕ). TakesValue levels bytes y.0 y.1 × (kind_of (type_byte y.0) ≡ Some kind.Binary)) (binary b.0.0.0 b.0.0.1, b.0.1) x b.2 (made, refl)
 value_takes read levels kind.Boolean end bytes x reads fits e =
     let b = bind_ok (boolean_at end bytes) (λ b. Ok (boolean b.0, b.1)) x e in
     let made : TakesValue levels bytes (boolean b.0.0) b.0.1 = record { takes = boolean_takes end bytes b.0 fits b.1; value = tt; shallow = omega arith } in
-    subst (λ (y : Tree × List ℕ). TakesValue levels bytes y.0 y.1 × (kind_of (type_byte y.0) ≡ Some kind.Boolean)) (ok_is (boolean b.0.0, b.0.1) x b.2) (made, refl)
+    ok_gives (λ (y : Tree × List ℕ). TakesValue levels bytes y.0 y.1 × (kind_of (type_byte y.0) ≡ Some kind.Boolean)) (boolean b.0.0, b.0.1) x b.2 (made, refl)
 value_takes read levels kind.Null end bytes x reads fits e =
-    subst (λ (y : Tree × List ℕ). TakesValue levels bytes y.0 y.1 × (kind_of (type_byte y.0) ≡ Some kind.Null)) (ok_is (null, bytes) x e)
+    ok_gives (λ (y : Tree × List ℕ). TakesValue levels bytes y.0 y.1 × (kind_of (type_byte y.0) ≡ Some kind.Null)) (null, bytes) x e
     (record { takes = record { parts = refl; rest_fits = fits }; value = tt; shallow = omega arith }, refl)
 value_takes read levels kind.MinKey end bytes x reads fits e =
-    subst (λ (y : Tree × List ℕ). TakesValue levels bytes y.0 y.1 × (kind_of (type_byte y.0) ≡ Some kind.MinKey)) (ok_is (min_key, bytes) x e)
+    ok_gives (λ (y : Tree × List ℕ). TakesValue levels bytes y.0 y.1 × (kind_of (type_byte y.0) ≡ Some kind.MinKey)) (min_key, bytes) x e
     (record { takes = record { parts = refl; rest_fits = fits }; value = tt; shallow = omega arith }, refl)
 value_takes read levels kind.MaxKey end bytes x reads fits e =
-    subst (λ (y : Tree × List ℕ). TakesValue levels bytes y.0 y.1 × (kind_of (type_byte y.0) ≡ Some kind.MaxKey)) (ok_is (max_key, bytes) x e)
+    ok_gives (λ (y : Tree × List ℕ). TakesValue levels bytes y.0 y.1 × (kind_of (type_byte y.0) ≡ Some kind.MaxKey)) (max_key, bytes) x e
     (record { takes = record { parts = refl; rest_fits = fits }; value = tt; shallow = omega arith }, refl)
 value_takes read levels kind.String end bytes x reads fits e =
     let b = bind_ok (string_at end bytes) (λ s. Ok (string s.0, s.1)) x e in
     let t = string_takes end bytes b.0 fits b.1 in
     let made : TakesValue levels bytes (string b.0.0) b.0.1 = record { takes = t.0; value = t.1; shallow = omega arith } in
-    subst (λ (y : Tree × List ℕ). TakesValue levels bytes y.0 y.1 × (kind_of (type_byte y.0) ≡ Some kind.String)) (ok_is (string b.0.0, b.0.1) x b.2) (made, refl)
+    ok_gives (λ (y : Tree × List ℕ). TakesValue levels bytes y.0 y.1 × (kind_of (type_byte y.0) ≡ Some kind.String)) (string b.0.0, b.0.1) x b.2 (made, refl)
 value_takes read levels kind.Document end bytes x reads fits e =
     let b = bind_ok (document_at (read None) end bytes) (λ d. Ok (document d.0, d.1)) x e in
     let t = document_takes read levels None end bytes b.0 reads fits b.1 in
     let made : TakesValue levels bytes (document b.0.0) b.0.1 = record { takes = t.takes; value = t.elements; shallow = omega (arith, t.shallow) } in
-    subst (λ (y : Tree × List ℕ). TakesValue levels bytes y.0 y.1 × (kind_of (type_byte y.0) ≡ Some kind.Document)) (ok_is (document b.0.0, b.0.1) x b.2) (made, refl)
+    ok_gives (λ (y : Tree × List ℕ). TakesValue levels bytes y.0 y.1 × (kind_of (type_byte y.0) ≡ Some kind.Document)) (document b.0.0, b.0.1) x b.2 (made, refl)
 value_takes read levels kind.Array end bytes x reads fits e =
     let b = bind_ok (document_at (read (Some 0)) end bytes) (λ d. Ok (array (unnamed d.0), d.1)) x e in
     let t = document_takes read levels (Some 0) end bytes b.0 reads fits b.1 in
@@ -310,7 +310,7 @@ value_takes read levels kind.Array end bytes x reads fits e =
       value = numbered_values es t.elements;
       shallow = omega (arith, t.shallow, numbered_depth es);
     } in
-    subst (λ (y : Tree × List ℕ). TakesValue levels bytes y.0 y.1 × (kind_of (type_byte y.0) ≡ Some kind.Array)) (ok_is (array vs, b.0.1) x b.2) (made, refl)
+    ok_gives (λ (y : Tree × List ℕ). TakesValue levels bytes y.0 y.1 × (kind_of (type_byte y.0) ≡ Some kind.Array)) (array vs, b.0.1) x b.2 (made, refl)
 
 -- ---- elements
 
@@ -354,12 +354,15 @@ byte_is b kind.Int64 e = grind (arith, nat_tests)
 byte_is b kind.MaxKey e = grind (arith, nat_tests)
 byte_is b kind.MinKey e = grind (arith, nat_tests)
 
+same_byte : (b c : ℕ) (k : Kind) → kind_of b ≡ Some k → kind_of c ≡ Some k → b ≡ c
+same_byte b c k p q = byte_is b k p ∙ sym (byte_is c k q)
+
 pub type_takes : (start end : ℕ) (bytes : List ℕ) (x : Kind × List ℕ) → IsBytes bytes → type_at start end bytes ≡ Ok x → (b : ℕ) × Takes bytes (b ∷ []) x.1 × (kind_of b ≡ Some x.0)
 type_takes start end [] x fits e = absurd cc
 type_takes start end (b ∷ bytes) x fits e =
     let g = guard_ok (eqb b 0) (BadLength start) (kind_at end b (b ∷ bytes) (kind_of b) >>= λ k. Ok (k, bytes)) x e in
     let k = bind_ok (kind_at end b (b ∷ bytes) (kind_of b)) (λ k. Ok (k, bytes)) x g.1 in
-    subst (λ (y : Kind × List ℕ). (b' : ℕ) × Takes (b ∷ bytes) (b' ∷ []) y.1 × (kind_of b' ≡ Some y.0)) (ok_is (k.0, bytes) x k.2)
+    ok_gives (λ (y : Kind × List ℕ). (b' : ℕ) × Takes (b ∷ bytes) (b' ∷ []) y.1 × (kind_of b' ≡ Some y.0)) (k.0, bytes) x k.2
     (b, record { parts = refl; rest_fits = IsBytes-tail b bytes fits }, kind_ok end b (b ∷ bytes) (kind_of b) k.0 k.1)
 
 -- what was taken for an element
@@ -382,7 +385,7 @@ element_takes read levels due start end bytes x reads fits e =
     let first = type_takes start end bytes a.0 fits a.1 in
     let second = name_takes due end a.0.1 b.0 first.1.rest_fits b.1 in
     let third = value_takes read levels a.0.0 end b.0.1 c.0 reads second.takes.rest_fits c.1 in
-    let same : first.0 ≡ type_byte t = byte_is first.0 a.0.0 first.2 ∙ sym (byte_is (type_byte t) a.0.0 third.1) in
+    let same : first.0 ≡ type_byte t = same_byte first.0 (type_byte t) a.0.0 first.2 third.1 in
     let inner = Takes-then a.0.1 (name ++ 0 ∷ []) b.0.1 (value_spelling t) c.0.1 second.takes third.0.takes in
     let both = Takes-then bytes (first.0 ∷ []) a.0.1 ((name ++ 0 ∷ []) ++ value_spelling t) c.0.1 first.1 inner in
     let made : TakesElement levels due bytes name t c.0.1 = record {
@@ -392,7 +395,7 @@ element_takes read levels due start end bytes x reads fits e =
       value = third.0.value;
       shallow = third.0.shallow;
     } in
-    subst (λ (y : (List ℕ × Tree) × List ℕ). TakesElement levels due bytes y.0.0 y.0.1 y.1) (ok_is ((name, t), c.0.1) x c.2) made
+    ok_gives (λ (y : (List ℕ × Tree) × List ℕ). TakesElement levels due bytes y.0.0 y.0.1 y.1) ((name, t), c.0.1) x c.2 made
 
 -- bytes that elements spell
 pub record TakesElements (levels : ℕ) (due : Option ℕ) (bytes : List ℕ) (es : Elements) : Type 0 where
@@ -404,7 +407,7 @@ pub record TakesElements (levels : ℕ) (due : Option ℕ) (bytes : List ℕ) (e
 pub elements_take : (read : Reader) (levels : ℕ) (due : Option ℕ) (start end most : ℕ) (bytes : List ℕ) (es : Elements) → Reads read levels → IsBytes bytes → elements_at read due start end most bytes ≡ Ok es → TakesElements levels due bytes es
 unfolding elements_at
 elements_take read levels due start end most [] es reads fits e =
-    subst (λ (y : Elements). TakesElements levels due [] y) (ok_is no_elements es e) (record { spelled = refl; elements = tt; shallow = omega arith; numbered = due_none due })
+    ok_gives (λ (y : Elements). TakesElements levels due [] y) no_elements es e (record { spelled = refl; elements = tt; shallow = omega arith; numbered = due_none due })
 elements_take read levels due start end zero (b ∷ bytes) es reads fits e = absurd cc
 elements_take read levels due start end (suc most) (b ∷ bytes) es reads fits e =
     let a = bind_ok (element_at read due start end (b ∷ bytes)) (λ x. elements_at read (next_due due) start end most x.1 >>= λ others. Ok (element x.0.0 x.0.1 others)) es e in
@@ -415,7 +418,7 @@ elements_take read levels due start end (suc most) (b ∷ bytes) es reads fits e
     let first = element_takes read levels due start end (b ∷ bytes) a.0 reads fits a.1 in
     let second = elements_take read levels (next_due due) start end most a.0.1 others reads first.takes.rest_fits c.1 in
     let spelled : b ∷ bytes ≡ elements_spelling (element name t others) = first.takes.parts ∙ ap (λ (y : List ℕ). (type_byte t ∷ ((name ++ 0 ∷ []) ++ value_spelling t)) ++ y) second.spelled ∙ ap (λ (y : List ℕ). type_byte t ∷ y) (append_assoc (name ++ 0 ∷ []) (value_spelling t) (elements_spelling others)) in
-    subst (λ (y : Elements). TakesElements levels due (b ∷ bytes) y) (ok_is (element name t others) es c.2)
+    ok_gives (λ (y : Elements). TakesElements levels due (b ∷ bytes) y) (element name t others) es c.2
     (record { spelled = spelled; elements = (first.named, first.value, second.elements); shallow = omega (arith, first.shallow, second.shallow); numbered = due_first due name t others first.is_it second.numbered })
 
 -- ---- documents

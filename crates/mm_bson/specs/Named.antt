@@ -1,5 +1,5 @@
 -- An array stands for the document of its values under the names "0", "1", .. in order (BSON 1.0, type 04).
-use Rattle.std.specs.Prelude.{◌≡◌, ℕ, ◌+◌, List}
+use Rattle.std.specs.Prelude.{◌≡◌, ℕ, ◌+◌}
 use Rattle.std.specs.Fmt.{decimal}
 use Rattle.mm_bson.specs.Tree.{Elements, no_elements, element, Values, no_values, item}
 

@@ -1,7 +1,7 @@
 -- Reading a document from left to right (BSON 1.0 of bsonspec.org), with the first fault that is met.
 -- Each step is given the bytes up to its document's last byte, that byte not among them. It lies at the offset `end`, so the bytes begin at
 -- `end - length bytes`, and a field reaches its document's last byte where it isn't inside these bytes.
-use Rattle.std.specs.Prelude.{◌≡◌, ℕ, zero, suc, ◌+◌, ◌-◌, ◌≤◌, List, [], ◌∷◌, length, take, drop, slice_index, position, Option, Some, None, option_map, Result, Ok, Err, Bool, true, false, nat_lt, ◌==◌, ◌||◌, if◌then◌else◌}
+use Rattle.std.specs.Prelude.{◌≡◌, ℕ, zero, suc, ◌+◌, ◌-◌, ◌≤◌, List, [], ◌∷◌, length, take, drop, slice_index, position, Option, Some, None, Result, Ok, Err, Bool, true, false, nat_lt, ◌==◌, ◌||◌, if◌then◌else◌}
 use Rattle.std.specs.Int.{Width, w32, w64, byte_len, from_le_bytes, cast_signed}
 use Rattle.std.specs.Str.{is_utf8, bytes_eq}
 use Rattle.std.specs.Fmt.{decimal}

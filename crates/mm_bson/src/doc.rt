@@ -1,6 +1,6 @@
 //! Documents, arrays and values in memory.
 
-ghost use Rattle.std.specs.Prelude.{◌≡◌, ◌<◌, ◌+◌, ◌^◌, length, IsTrue, ◌↔◌, IfOk, OnOk, OnErr};
+ghost use Rattle.std.specs.Prelude.{◌≡◌, ◌<◌, ◌≤◌, ◌+◌, ◌^◌, length, IsTrue, ◌↔◌, IfOk, OnOk, OnErr};
 ghost use Rattle.std.specs.Fmt.{decimal};
 ghost use Rattle.mm_bson.specs.Tree.{tree_depth, depth, values_depth, no_elements, element, append, no_values, item, append_values, count};
 ghost use Rattle.mm_bson.specs.Spelling.{spelling, array_spelling, element_len, HasNoZero};
@@ -188,7 +188,8 @@ impl Doc {
 
     /// How many levels the document has, itself being the first: 1 to 100.
     pub fn levels(&self) -> usize
-        ensures { result ≡ depth self.now + 1 }
+        ensures levels { result ≡ depth self.now + 1 }
+        ensures most { result ≤ 100 }
     {
         self.inner_levels + 1
     }
@@ -273,7 +274,8 @@ impl ValueList {
 
     /// How many levels the array has, itself being the first: 1 to 100.
     pub fn levels(&self) -> usize
-        ensures { result ≡ values_depth self.now + 1 }
+        ensures levels { result ≡ values_depth self.now + 1 }
+        ensures most { result ≤ 100 }
     {
         self.inner_levels + 1
     }
@@ -284,7 +286,8 @@ impl Value {
 
     /// How many levels of documents and arrays the value has.
     pub fn levels(&self) -> usize
-        ensures { result ≡ tree_depth (tree self.now) }
+        ensures levels { result ≡ tree_depth (tree self.now) }
+        ensures most { result ≤ 100 }
     {
         match self {
             Value::Document(document) => document.levels(),

@@ -1,19 +1,24 @@
 //! Documents of BSON 1.0 (bsonspec.org), without double, undefined, regular
 //! expression, DBPointer, code, symbol and decimal.
 //!
-//! A `Doc` is seen as its elements, each a name and a `Value`, and holds the
-//! one byte string that spells them. `Doc::parse` reads exactly the documents
-//! of at most 16,777,216 bytes and 100 levels, and answers anything else by
-//! its first fault in reading order, with its offset. `get` follows a path,
-//! and `cmp` is a total order of values.
+//! A `Doc` is seen as its elements in their order, each a name and a `Value`;
+//! names may repeat. It holds the one byte string that spells them.
+//! - `Doc::parse` reads exactly the documents of at most 16,777,216 bytes and
+//!   100 levels. Anything else it answers with the first fault in reading
+//!   order and its offset.
+//! - `new`, `push` and `copy` build documents and arrays, whose bytes grow in
+//!   place. They have at most 100 levels and fewer than 2^31 bytes.
+//! - `get` follows a path, and `cmp` is a total order of values.
 //!
-//! Not promised: that memory suffices. Only `parse` takes memory.
+//! Not promised: that memory suffices. In specs/, Spelling is the grammar,
+//! Reading the first fault, Order the order and Path what a path leads to.
 #![tactic(auto)]
 
 mod copying;
 mod doc;
 mod fault;
 mod kind;
+mod laws;
 mod list;
 mod order;
 mod path;
@@ -23,10 +28,11 @@ mod writing;
 
 pub use doc::{Doc, Element, Value, ValueList};
 pub use fault::BsonFault;
+pub use laws::{arrays_are_documents, spellings_are_unique};
 pub use list::DocList;
-pub use order::{cmp, order_is_total};
+pub use order::{class, cmp, order_is_total};
 pub use reading::{MAX_LEN, MAX_LEVELS};
-pub use text::{Blob, Text};
+pub use text::{Blob, Text, is_text};
 
 #[cfg(test)]
 mod tests;

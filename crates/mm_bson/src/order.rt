@@ -10,8 +10,9 @@ use crate::doc::{Doc, Element, Value, ValueList};
 use crate::text::{Blob, Text};
 use std::cmp::Ordering;
 
-/// The class of a value: int32 and int64 share one.
-fn class(value: &Value) -> u8
+/// The class of a value, a number from 0 on in the order of the classes. An
+/// int32 and an int64 have one class.
+pub fn class(value: &Value) -> u8
     ensures { result ≡ class_of (tree value.now) }
 {
     match value {

@@ -3,10 +3,10 @@
 //! Each reader is given the bytes up to its document's last byte, which lies
 //! at the offset `end`, and answers a value and the bytes after it.
 
-ghost use Rattle.std.specs.Prelude.{◌≡◌, ◌<◌, ◌≤◌, ◌+◌, ◌^◌, ◌==◌, length, take, position, Some, None, IfSome, IfOk, IfErr, Ok};
+ghost use Rattle.std.specs.Prelude.{◌≡◌, ◌<◌, ◌≤◌, ◌+◌, ◌^◌, ◌==◌, true, length, take, position, Some, None, IfSome, IfOk, IfErr, Ok};
 ghost use Rattle.std.specs.Int.{w32, w64};
 ghost use Rattle.std.specs.Fmt.{decimal};
-ghost use Rattle.std.specs.Str.{bytes_eq};
+ghost use Rattle.std.specs.Str.{is_utf8, bytes_eq};
 ghost use Rattle.mm_bson.specs.Reading.{Gives, IsFramed, number_at, name_at, string_at, bytes_at, binary_at, boolean_at, type_at, len_at, document_at, value_at, element_at, elements_at, nested_at, whole};
 ghost use Rattle.mm_bson.specs.Faults.{IsExplained};
 ghost use Rattle.mm_bson.specs.Tree.{Elements, depth, values_depth};
@@ -69,10 +69,12 @@ fn zero_in(bytes: &[u8]) -> Option<usize>
     bytes.iter().position(|b| *b == 0)
 }
 
+/// A name and the bytes after its 00.
 #[tactic(auto, unfolding(crate::specs::Reading::name_at))]
-fn name_of(alloc: Global, bytes: &[u8], end: usize) -> Result<(Text, &[u8]), BsonFault>
+fn name_of(bytes: &[u8], end: usize) -> Result<(&[u8], &[u8]), BsonFault>
     requires { length bytes.now ≤ end }
-    ensures gives { Gives (λ x. (x.0, x.1.now)) result (name_at None end bytes.now) }
+    ensures gives { Gives (λ x. (x.0.now, x.1.now)) result (name_at None end bytes.now) }
+    ensures text { IfOk result (λ x. is_utf8 x.0.now ≡ true) }
     ensures left { IfOk result (λ x. length x.1.now < length bytes.now) }
 {
     match zero_in(bytes) {
@@ -86,8 +88,7 @@ fn name_of(alloc: Global, bytes: &[u8], end: usize) -> Result<(Text, &[u8]), Bso
                     at: end - bytes.len(),
                 });
             }
-            let name = Text::from_slice(alloc, front)?;
-            Ok((name, &bytes[n + 1..]))
+            Ok((front, &bytes[n + 1..]))
         }
     }
 }
@@ -371,8 +372,9 @@ fn element_of(
     ensures left { IfOk result (λ x. length x.1.now < length bytes.now) }
 {
     let (kind, rest) = kind_of(bytes, start, end)?;
-    let (name, rest) = name_of(alloc, rest, end)?;
+    let (name, rest) = name_of(rest, end)?;
     let (value, rest) = value_of(alloc, kind, rest, end, levels)?;
+    let name = Text::from_slice(alloc, name)?;
     Ok((Element { name, value }, rest))
 }
 

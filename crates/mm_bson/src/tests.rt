@@ -392,3 +392,17 @@ fn copies(rt: HostRuntime) -> Result<(), Fail> {
     }
     Ok(())
 }
+
+/// Whether values may go to another thread, and be read by several.
+fn crosses<T: Send + Sync>(_value: &T) {}
+
+#[test]
+fn threads(rt: HostRuntime) -> Result<(), Fail> {
+    let mut documents = DocList::new(rt.alloc());
+    let doc = Doc::new(rt.alloc())?;
+    crosses(&doc);
+    documents.push(doc)?;
+    crosses(&documents);
+    crosses(&Value::Array(ValueList::new(rt.alloc())?));
+    Ok(())
+}

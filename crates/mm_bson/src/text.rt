@@ -32,8 +32,8 @@ impl Model for Text {
     ghost invariant = { λ t. is_utf8 t.bytes.items ≡ true };
 }
 
-/// Whether the bytes are UTF-8.
-pub(crate) fn is_text(bytes: &[u8]) -> bool
+/// Whether the bytes are UTF-8, so that they may be a text.
+pub fn is_text(bytes: &[u8]) -> bool
     ensures { result ≡ is_utf8 bytes.now }
 {
     match str::from_utf8(bytes) {

@@ -1,9 +1,10 @@
 -- A frame that has each field of a value is read as that value.
 use Rattle.std.proofs.Common.{◌≡◌, ℕ, List, length, get_or, refl, arith}
 use Rattle.mm_base.specs.Lists.{list_of, list_bytes}
-use Rattle.mm_base.specs.Places.{null}
+use Rattle.mm_base.specs.Bytes.{part}
+use Rattle.mm_base.specs.Places.{null, place_of}
 use Rattle.mm_base.specs.Tables.{HasAll}
-use Rattle.mm_base.proofs.ListLaws.{list_again, length-list_bytes}
+use Rattle.mm_base.proofs.ListLaws.{list_again, length-list_bytes, length-list_of}
 use Rattle.mm_base.proofs.TableLaws.{length-joined, has_all}
 use Rattle.mm_frames.specs.ExtentHeader.{extent_header_of, extent_header_table}
 use Rattle.mm_frames.specs.declared.extent_header.ExtentHeader.{ExtentHeader}
@@ -64,3 +65,14 @@ length-index_pairs_bytes ps len = omega (arith, length-list_bytes 16 index_pair_
 pub details_is : (x : Details) (bytes : List ℕ) → length x.indexes ≡ 10 → HasAll bytes (details_table x) → details_of bytes ≡ x
 unfolding details_of
 details_is x bytes len has = grind (arith, index_pairs_again)
+
+pub length-deleted : (bytes : List ℕ) → length (details_of bytes).deleted ≡ 19
+unfolding details_of
+length-deleted bytes = length-list_of 8 19 place_of (part 16 152 bytes)
+
+pub length-indexes : (bytes : List ℕ) → length (details_of bytes).indexes ≡ 10
+unfolding details_of
+length-indexes bytes = length-list_of 16 10 index_pair_of (part 192 160 bytes)
+
+-- how many lists and pairs details have
+pub ruleset details_lengths = (length-deleted, length-indexes)

@@ -45,7 +45,8 @@ pub fn read_deleted_header(bytes: &[u8], at: usize) -> DeletedHeader
 /// Writes a deleted block's header at `at`.
 pub fn put_deleted_header(bytes: &mut [u8], at: usize, header: &DeletedHeader)
     requires { at + DELETED_HEADER_LEN ≤ length bytes.old }
-    ensures { Puts DELETED_HEADER_LEN deleted_header_bytes deleted_header_of at header.now bytes.old bytes.new }
+    ensures { Puts DELETED_HEADER_LEN deleted_header_bytes deleted_header_of at
+        header.now bytes.old bytes.new }
 {
     put_i32(
         bytes,
@@ -54,6 +55,17 @@ pub fn put_deleted_header(bytes: &mut [u8], at: usize, header: &DeletedHeader)
     );
     put_i32(bytes, at + EXTENT_OFS_AT, header.extent_ofs);
     put_place(bytes, at + NEXT_DELETED_AT, header.next_deleted);
+}
+
+/// The bytes of a deleted block's header.
+#[tactic(auto, using(mm_base::proofs::Sets::whole))]
+pub fn deleted_header_frame(header: &DeletedHeader) -> [u8; DELETED_HEADER_LEN]
+    ensures spelled { result ≡ deleted_header_bytes header.now }
+    ensures again { deleted_header_of result ≡ header.now }
+{
+    let mut frame = [0; DELETED_HEADER_LEN];
+    put_deleted_header(&mut frame, 0, header);
+    frame
 }
 
 /// Writes the link of the deleted block at `at` to the next one.

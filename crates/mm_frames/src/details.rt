@@ -195,6 +195,17 @@ pub fn put_details(bytes: &mut [u8], at: usize, details: &Details)
     put_zeros(bytes, at + RESERVED_END_AT, DETAILS_LEN - RESERVED_END_AT);
 }
 
+/// The bytes of details.
+#[tactic(auto, using(mm_base::proofs::Sets::whole))]
+pub fn details_frame(details: &Details) -> [u8; DETAILS_LEN]
+    ensures spelled { result ≡ details_bytes details.now }
+    ensures again { details_of result ≡ details.now }
+{
+    let mut frame = [0; DETAILS_LEN];
+    put_details(&mut frame, 0, details);
+    frame
+}
+
 /// Writes the head of one list of deleted blocks in the details at `at`.
 pub fn put_list_head(bytes: &mut [u8], at: usize, list: usize, head: DiskLoc)
     requires inside { at + DETAILS_LEN ≤ length bytes.old }

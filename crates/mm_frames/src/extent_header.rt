@@ -79,7 +79,8 @@ pub fn read_extent_header(bytes: &[u8], at: usize) -> ExtentHeader
 /// Writes an extent's header at `at`.
 pub fn put_extent_header(bytes: &mut [u8], at: usize, header: &ExtentHeader)
     requires { at + EXTENT_HEADER_LEN ≤ length bytes.old }
-    ensures { Puts EXTENT_HEADER_LEN extent_header_bytes extent_header_of at header.now bytes.old bytes.new }
+    ensures { Puts EXTENT_HEADER_LEN extent_header_bytes extent_header_of at
+        header.now bytes.old bytes.new }
 {
     put_u32(bytes, at + MAGIC_AT, header.magic);
     put_place(bytes, at + MY_LOC_AT, header.my_loc);
@@ -89,6 +90,17 @@ pub fn put_extent_header(bytes: &mut [u8], at: usize, header: &ExtentHeader)
     put_i32(bytes, at + LENGTH_AT, header.len);
     put_place(bytes, at + FIRST_RECORD_AT, header.first_record);
     put_place(bytes, at + LAST_RECORD_AT, header.last_record);
+}
+
+/// The bytes of an extent's header.
+#[tactic(auto, using(mm_base::proofs::Sets::whole))]
+pub fn extent_header_frame(header: &ExtentHeader) -> [u8; EXTENT_HEADER_LEN]
+    ensures spelled { result ≡ extent_header_bytes header.now }
+    ensures again { extent_header_of result ≡ header.now }
+{
+    let mut frame = [0; EXTENT_HEADER_LEN];
+    put_extent_header(&mut frame, 0, header);
+    frame
 }
 
 /// Writes the link of the extent at `at` to the next one.

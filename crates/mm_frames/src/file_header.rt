@@ -63,7 +63,8 @@ pub fn read_file_header(bytes: &[u8], at: usize) -> FileHeader
 /// Writes a file's header at `at`, with zeros behind its fields.
 pub fn put_file_header(bytes: &mut [u8], at: usize, header: &FileHeader)
     requires { at + FILE_HEADER_LEN ≤ length bytes.old }
-    ensures { Puts FILE_HEADER_LEN file_header_bytes file_header_of at header.now bytes.old bytes.new }
+    ensures { Puts FILE_HEADER_LEN file_header_bytes file_header_of at
+        header.now bytes.old bytes.new }
 {
     put_u32(bytes, at + VERSION_AT, header.version);
     put_u32(bytes, at + VERSION_MINOR_AT, header.version_minor);
@@ -73,11 +74,23 @@ pub fn put_file_header(bytes: &mut [u8], at: usize, header: &FileHeader)
     put_zeros(bytes, at + ZEROS_AT, FILE_HEADER_LEN - ZEROS_AT);
 }
 
+/// The bytes of a file's header.
+#[tactic(auto, using(mm_base::proofs::Sets::whole))]
+pub fn file_header_frame(header: &FileHeader) -> [u8; FILE_HEADER_LEN]
+    ensures spelled { result ≡ file_header_bytes header.now }
+    ensures again { file_header_of result ≡ header.now }
+{
+    let mut frame = [0; FILE_HEADER_LEN];
+    put_file_header(&mut frame, 0, header);
+    frame
+}
+
 /// Whether the bytes at `at` are those that `put_file_header` writes for the header that stands there: its zeros are there, and a null
 /// place has offset 0.
 pub fn is_file_header(bytes: &[u8], at: usize) -> bool
     requires { at + FILE_HEADER_LEN ≤ length bytes.now }
-    ensures { let frame = part at FILE_HEADER_LEN bytes.now in IsTrue result ↔ (frame ≡ file_header_bytes (file_header_of frame)) }
+    ensures { let frame = part at FILE_HEADER_LEN bytes.now in
+        IsTrue result ↔ (frame ≡ file_header_bytes (file_header_of frame)) }
 {
     let frame = frame(bytes, at, FILE_HEADER_LEN);
     spells_place(frame, UNUSED_AT) && is_zero(frame, ZEROS_AT, FILE_HEADER_LEN - ZEROS_AT)

@@ -8,6 +8,8 @@
 //! - a writer fixes each byte of the frame (`x_bytes`): reserved bytes are zero, a null place has offset 0;
 //! - what was written is read, and no byte outside the frame changes (`Puts`).
 //!
+//! `x_frame(&x)` is the frame alone, as an array.
+//!
 //! `specs/` has one table for each frame, with its offsets as the format gives them. Some fields have writers of their own (`PutsField`).
 //! No reader looks at reserved bytes, nor says whether a value is right: `is_file_header` tests the zeros of a file's header, and whether
 //! numbers and links make sense is for the crates above.
@@ -24,25 +26,26 @@ mod rec_header;
 mod tests;
 
 pub use deleted_header::{
-    DELETED_HEADER_LEN, DeletedHeader, NEXT_DELETED_AT, put_deleted_header, put_next_deleted,
-    read_deleted_header,
+    DELETED_HEADER_LEN, DeletedHeader, NEXT_DELETED_AT, deleted_header_frame, put_deleted_header,
+    put_next_deleted, read_deleted_header,
 };
 pub use details::{
     COLLECTION_FLAGS, DATASIZE_AT, DELETED_AT, DELETED_LISTS, DETAILS_LEN, Details, INDEX_PAIRS,
-    MAX_DOCS_UNCAPPED, NODE_LEN, PADDING, put_counts, put_details, put_list_head, read_details,
+    MAX_DOCS_UNCAPPED, NODE_LEN, PADDING, details_frame, put_counts, put_details, put_list_head,
+    read_details,
 };
 pub use extent_header::{
     EXTENT_HEADER_LEN, EXTENT_MAGIC, ExtentHeader, FIRST_RECORD_AT, LAST_RECORD_AT, XNEXT_AT,
-    XPREV_AT, put_extent_header, put_first_record, put_last_record, put_xnext, put_xprev,
-    read_extent_header,
+    XPREV_AT, extent_header_frame, put_extent_header, put_first_record, put_last_record, put_xnext,
+    put_xprev, read_extent_header,
 };
 pub use file_header::{
-    DATA_FILE_VERSION, DATA_FILE_VERSION_MINOR, FILE_HEADER_LEN, FileHeader, is_file_header,
-    put_file_header, read_file_header,
+    DATA_FILE_VERSION, DATA_FILE_VERSION_MINOR, FILE_HEADER_LEN, FileHeader, file_header_frame,
+    is_file_header, put_file_header, read_file_header,
 };
 pub use index_pair::{INDEX_PAIR_LEN, IndexPair, put_index_pair, read_index_pair};
-pub use node_head::{NODE_HEAD_LEN, NodeHead, put_node_head, read_node_head};
+pub use node_head::{NODE_HEAD_LEN, NodeHead, node_head_frame, put_node_head, read_node_head};
 pub use rec_header::{
     CHAIN_END, NEXT_OFS_AT, PREV_OFS_AT, REC_HEADER_LEN, RecHeader, put_next_ofs, put_prev_ofs,
-    put_rec_header, read_rec_header,
+    put_rec_header, read_rec_header, rec_header_frame,
 };

@@ -44,3 +44,14 @@ pub fn put_node_head(bytes: &mut [u8], at: usize, head: &NodeHead)
     put_u32(bytes, at + HASH_AT, hash);
     put_bytes(bytes, at + NAME_AT, &name);
 }
+
+/// The bytes of a node's head.
+#[tactic(auto, using(mm_base::proofs::Sets::whole))]
+pub fn node_head_frame(head: &NodeHead) -> [u8; NODE_HEAD_LEN]
+    ensures spelled { result ≡ node_head_bytes head.now }
+    ensures again { node_head_of result ≡ head.now }
+{
+    let mut frame = [0; NODE_HEAD_LEN];
+    put_node_head(&mut frame, 0, head);
+    frame
+}

@@ -66,6 +66,17 @@ pub fn put_rec_header(bytes: &mut [u8], at: usize, header: &RecHeader)
     put_i32(bytes, at + PREV_OFS_AT, header.prev_ofs);
 }
 
+/// The bytes of a record's header.
+#[tactic(auto, using(mm_base::proofs::Sets::whole))]
+pub fn rec_header_frame(header: &RecHeader) -> [u8; REC_HEADER_LEN]
+    ensures spelled { result ≡ rec_header_bytes header.now }
+    ensures again { rec_header_of result ≡ header.now }
+{
+    let mut frame = [0; REC_HEADER_LEN];
+    put_rec_header(&mut frame, 0, header);
+    frame
+}
+
 /// Writes the link of the record at `at` to the next one.
 pub fn put_next_ofs(bytes: &mut [u8], at: usize, next_ofs: i32)
     requires { at + REC_HEADER_LEN ≤ length bytes.old }

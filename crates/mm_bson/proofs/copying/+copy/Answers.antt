@@ -1,4 +1,4 @@
-use Rattle.std.proofs.Common.{◌≡◌, ◌≤◌, ◌<◌, length, arith}
+use Rattle.std.proofs.Common.{◌≡◌, ◌<◌, length, arith}
 use Rattle.mm_bson.specs.Tree.{no_elements, element}
 use Rattle.mm_bson.specs.View.{tree, elements_of, values_of}
 use Rattle.mm_bson.proofs.Copies.{elements_on, elements_done, others_depth, values_on, values_done, others_values_depth}

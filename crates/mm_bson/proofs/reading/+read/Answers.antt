@@ -24,7 +24,7 @@ pub elements-elements-preserved : goal.elements-elements-preserved
 elements-elements-preserved t c =
     let inv = c.elements.invariant in
     let e = c.in_ok-element in
-    let pushed : elements_of c.push.new.self.items ≡ _ = rw c.in_ok-push.ensures.items (elements_of-push c.elements.found.items e.element) in
+    let pushed : elements_of c.push.new.self.items ≡ append (elements_of c.elements.found.items) (element e.element.name (tree e.element.value) no_elements) = rw c.in_ok-push.ensures.items (elements_of-push c.elements.found.items e.element) in
     let next = goes_on (nested_at c.args.levels) c.args.start c.args.end None (elements_of c.elements.found.items) inv.1 c.elements.rest.now e.element.name (tree e.element.value) e.after.now _ inv.2 e.ensures.left e.ensures.gives inv.3 in
     (omega (arith, e.ensures.left), next.0, next.1, rw pushed next.2)
 

@@ -1,4 +1,4 @@
-use Rattle.std.proofs.Common.{◌≡◌, max, length, sym, ap, ◌∙◌, arith}
+use Rattle.std.proofs.Common.{◌≡◌, max, length, ap, ◌∙◌, arith}
 use Rattle.mm_bson.specs.Tree.{tree_depth, no_elements, element, append}
 use Rattle.mm_bson.specs.Spelling.{spelling}
 use Rattle.mm_bson.specs.View.{tree, elements_of}
@@ -14,7 +14,7 @@ invariant_of-self-2 c =
     let t = tree c.args.value in
     let es = elements_of c.self.inside.elements.items in
     let pushed : elements_of c.push_reserved.new.self.items ≡ append es (element c.args.name t no_elements) = rw (c.push_reserved.ensures.items, c.reserve.ensures.items) (elements_of-push c.self.inside.elements.items (record { name = c.args.name; value = c.args.value })) in
-    let deep : c.max-self-inside.result ≡ max c.self.inside.inner_levels (tree_depth t) = omega (arith, c.max-self-inside.ensures, c.levels.ensures) in
+    let deep : c.max-self-inside.result ≡ max c.self.inside.inner_levels (tree_depth t) = omega (arith, c.max-self-inside.ensures, c.levels.ensures.levels) in
     let grown = rw (c.reserve-2.ensures.items, c.as_bytes-2.ensures.bytes) at c.put_element.ensures.spelled in
     rw (pushed, deep) (document_grows c.self.inside.bytes.items c.put_element.new.bytes.items c.self.inside.inner_levels es c.args.name t c.self.invariant (c.as_bytes.ensures.utf8, c.requires.name) c.put_element.ensures.sound c.requires.levels
     (omega (arith, c.requires.fits, ap (λ d. length (spelling d)) c.self.view_is)) grown)

@@ -1,7 +1,6 @@
-use Rattle.std.proofs.Common.{◌≡◌, ◌∷◌, [], ◌++◌, max, length, sym, ap, ◌∙◌, arith}
+use Rattle.std.proofs.Common.{◌≡◌, max, length, ap, ◌∙◌, arith}
 use Rattle.std.specs.Fmt.{decimal}
 use Rattle.mm_bson.specs.Tree.{tree_depth, no_values, item, append_values, count}
-use Rattle.mm_bson.specs.Spelling.{array_spelling, element_len}
 use Rattle.mm_bson.specs.View.{tree, values_of}
 use Rattle.mm_bson.proofs.Numbered.{values_of-push, count_is}
 use Rattle.mm_bson.proofs.Building.{array_spelling_len, array_grows}
@@ -25,7 +24,7 @@ invariant_of-self-2 c =
     let place : c.len.result ≡ count vs = omega (arith, count_is c.self.inside.values.items) in
     let name : c.as_bytes-name.result.now ≡ decimal (count vs) = c.as_bytes-name.ensures.value ∙ c.format.ensures.text ∙ ap decimal place in
     let pushed : values_of c.push_reserved.new.self.items ≡ append_values vs (item t no_values) = rw (c.push_reserved.ensures.items, c.reserve.ensures.items) (values_of-push c.self.inside.values.items c.args.value) in
-    let deep : c.max-self-inside.result ≡ max c.self.inside.inner_levels (tree_depth t) = omega (arith, c.max-self-inside.ensures, c.levels.ensures) in
+    let deep : c.max-self-inside.result ≡ max c.self.inside.inner_levels (tree_depth t) = omega (arith, c.max-self-inside.ensures, c.levels.ensures.levels) in
     let fits = rw (← c.self.view_is) at c.requires.fits in
     let grown = rw (c.reserve-2.ensures.items, name) at c.put_element.ensures.spelled in
     rw (pushed, deep) (array_grows c.self.inside.bytes.items c.put_element.new.bytes.items c.self.inside.inner_levels vs t c.self.invariant c.put_element.ensures.sound c.requires.levels fits grown)
