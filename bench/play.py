@@ -4,7 +4,8 @@
 usage: bench/play.py [RUNS]      (default: 5 runs of each size; the program is built first where it is missing)
 
 Prints for each size the median, the lines per second past start-up (the time of an empty script is taken off), and how much more time
-past start-up ten times the lines took.
+past start-up ten times the lines took. The folders are made in memory (/dev/shm) where the machine has that, since a disk's sync takes
+longer than all else at the smaller sizes.
 """
 import statistics
 import subprocess
@@ -15,6 +16,7 @@ from pathlib import Path
 
 TOP = Path(__file__).resolve().parent.parent
 SIZES = (300, 3_000, 30_000)
+FOLDERS = "/dev/shm" if Path("/dev/shm").is_dir() else None
 
 
 def script(lines: int) -> bytes:
@@ -24,11 +26,19 @@ def script(lines: int) -> bytes:
 def median(text: bytes, runs: int) -> float:
     program, times = TOP / "crates/mmap/out/mmap", []
     for _ in range(runs):
-        with tempfile.TemporaryDirectory() as folder:
+        with tempfile.TemporaryDirectory(dir=FOLDERS) as folder:
             begin = time.perf_counter()
             subprocess.run([program, "play", folder], input=text, stdout=subprocess.PIPE, check=True)
             times.append(time.perf_counter() - begin)
     return statistics.median(times)
+
+
+def speed(lines: int, past: float) -> str:
+    return f"{lines / past:,.0f} lines a second past start-up" if past > 0 else "within the noise of start-up"
+
+
+def growth(past: float, before: float | None) -> str:
+    return f", {past / before:.1f} times the size before" if before is not None and before > 0 else ""
 
 
 def main() -> None:
@@ -40,9 +50,8 @@ def main() -> None:
     before = None
     for lines in SIZES:
         took = median(script(lines), runs)
-        past = max(took - start, 1e-9)
-        ratio = "" if before is None else f", {past / before:.1f} times the size before"
-        print(f"{lines:6} lines {took * 1000:7.1f} ms, {lines / past:,.0f} lines a second past start-up{ratio}")
+        past = took - start
+        print(f"{lines:6} lines {took * 1000:7.1f} ms, {speed(lines, past)}{growth(past, before)}")
         before = past
 
 
