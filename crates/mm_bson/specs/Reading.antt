@@ -1,4 +1,13 @@
--- Reading a document from left to right (BSON 1.0 of bsonspec.org), with the first fault that is met.
+-- Reading a document from left to right (BSON 1.0 of bsonspec.org), with the first fault that is met, and its offset:
+-- * BadLength, a length that doesn't agree with its document, string or binary, or a string without its final 00: at that length;
+--   a document with another byte than 00 as its last where a type byte or 00 is due, or with 00 as a type byte before: at its length;
+--   any other field that reaches its document's last byte or goes past it: at the field's first byte;
+-- * BadType, a byte that is no type, or a boolean other than 00 and 01: at that byte;
+-- * BadUtf8, a name or a text: at its first byte; BadName, a name that isn't due in its array: at its first byte;
+-- * TooDeep, more than 100 levels, the whole document being the first: at the length of the document or array that is one too many;
+-- * TooLong, more than 16,777,216 bytes, where the outermost length is that of the input.
+-- Where one field breaks several of these, BadLength comes first, then TooDeep, BadUtf8, BadName.
+--
 -- Each step is given the bytes up to its document's last byte, that byte not among them. It lies at the offset `end`, so the bytes begin at
 -- `end - length bytes`, and a field reaches its document's last byte where it isn't inside these bytes.
 use Rattle.std.specs.Prelude.{◌≡◌, ℕ, zero, suc, ◌+◌, ◌-◌, ◌≤◌, List, [], ◌∷◌, length, take, drop, slice_index, position, Option, Some, None, Result, Ok, Err, Bool, true, false, nat_lt, ◌==◌, ◌||◌, if◌then◌else◌}

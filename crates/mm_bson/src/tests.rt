@@ -272,14 +272,15 @@ fn paths(rt: HostRuntime) -> Result<(), Fail> {
     Ok(())
 }
 
-/// So many levels, each but the last with one element of an empty name.
-fn levels(alloc: Global, count: u32) -> Result<Vec<u8>, AllocError> {
+/// So many levels, each but the last with one element of an empty name. The
+/// last is empty and begins with this length.
+fn levels(alloc: Global, count: u32, last: u8) -> Result<Vec<u8>, AllocError> {
     let mut bytes = Vec::new(alloc);
     for inside in (1..count).rev() {
         bytes.extend_from_slice(&(inside % 1000 * 7 + 5).to_le_bytes())?;
         bytes.extend_from_slice(&[0x03, 0])?;
     }
-    bytes.extend_from_slice(&[5, 0, 0, 0, 0])?;
+    bytes.extend_from_slice(&[last, 0, 0, 0, 0])?;
     for _ in 1..count {
         bytes.push(0)?;
     }
@@ -289,12 +290,15 @@ fn levels(alloc: Global, count: u32) -> Result<Vec<u8>, AllocError> {
 #[test]
 fn deep(rt: HostRuntime) -> Result<(), Fail> {
     let alloc = rt.alloc();
-    let bytes = levels(alloc, 100)?;
+    let bytes = levels(alloc, 100, 5)?;
     assert_eq!(rt; Doc::parse(alloc, bytes.as_slice())?.levels(), 100);
-    let bytes = levels(alloc, 101)?;
-    match Doc::parse(alloc, bytes.as_slice()) {
-        Ok(_) => assert!(rt; false, "101 levels"),
-        Err(fault) => assert_eq!(rt; fault, TooDeep { at: 600 }),
+    // the 101st level, with a right length and with a wrong one
+    for (last, fault) in [(5, TooDeep { at: 600 }), (4, BadLength { at: 600 })] {
+        let bytes = levels(alloc, 101, last)?;
+        match Doc::parse(alloc, bytes.as_slice()) {
+            Ok(_) => assert!(rt; false, "101 levels"),
+            Err(found) => assert_eq!(rt; found, fault),
+        }
     }
     Ok(())
 }
