@@ -87,6 +87,9 @@ impl RoomSet {
     pub fn make_room(&mut self, others: &RangeSet) -> Result<(), NoMemory>
         ensures room { OnOk result (IsTrue (has_room self.new others.now)) }
         ensures shown { shown self.new ≡ shown self.old }
+
+        // Room that there was is there.
+        ensures stays { (rs : List Range) → IsTrue (has_room self.old rs) → IsTrue (has_room self.new rs) }
     {
         for (file, at, len) in others.iter() {
             self.make_room_at(file, at + len)?;
