@@ -1,0 +1,9 @@
+pub mod Slots
+pub mod Making
+pub mod Lengths
+pub mod Sound
+pub mod FreshLemmas
+pub mod HeldLemmas
+pub mod MadeLists
+pub mod DraftLemmas
+pub mod Weighing

@@ -1,0 +1,9 @@
+use Rattle.std.proofs.Common.{subst}
+use Rattle.mm_views.specs.State.{IsCovered}
+use Rattle.mm_views.specs.Held.{state_of}
+use Rattle.mm_views.proofs.Sound.{covered_sound}
+use Rattle.mm_views.proofs.views.Views.remap.Goals as goal
+
+pub returns-clause-coverage : goal.returns-clause-coverage
+returns-clause-coverage c =
+    subst IsCovered c.self.view_is (covered_sound (state_of c.self.inside.shared c.self.inside.private c.self.inside.made c.self.inside.opened c.self.inside.closed.items c.self.inside.prepared) c.self.invariant.sound)
