@@ -1,0 +1,3 @@
+pub mod Specification
+pub mod Key
+pub mod KeyOrder

@@ -1,0 +1,27 @@
+//! Keys of documents, by which an index is in order.
+//!
+//! A `KeySpec` is seen as its document: 1 to 31 different paths in order, each
+//! with 1 or -1. A key is a document, too: for each path of the specification
+//! the value there, or null where it is missing, under the empty name.
+//! - `KeySpec::from_doc` takes exactly the documents that are specifications.
+//! - `key_of` gives a document's key. It refuses exactly the documents in which
+//!   a path leads to an array, and after those the keys of more than 1024 bytes.
+//! - `key_cmp` is a total order of keys. The first field that differs decides,
+//!   turned round where the specification has -1.
+//!
+//! Not promised: that memory suffices. In specs/, Specification says which
+//! documents are specifications, Key what a key is and KeyOrder the order.
+#![tactic(auto)]
+
+mod fault;
+mod key;
+mod order;
+mod specification;
+
+pub use fault::{KeyFault, SpecFault};
+pub use key::{MAX_KEY_LEN, key_of};
+pub use order::{key_cmp, key_order_by_fields, key_order_is_total};
+pub use specification::{KeySpec, MAX_FIELDS};
+
+#[cfg(test)]
+mod tests;
