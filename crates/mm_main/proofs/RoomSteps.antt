@@ -7,7 +7,6 @@ use Rattle.mm_bson.specs.Spelling.{spelling}
 use Rattle.mm_main.specs.declared.answers.Reply.{Reply}
 use Rattle.mm_main.specs.declared.answers.Reply.TheVariants.{Done, NoSpace}
 use Rattle.mm_main.specs.DataFile.{Fit}
-use Rattle.mm_main.specs.Answers.{AnswersAll}
 use Rattle.mm_main.specs.Room.{doubled_to, first_at, file_len, request, block_len, replies_from, replies_of, stored_by, stored}
 
 -- the block so far, with so many doublings left up to the greatest
@@ -81,9 +80,5 @@ answering_none docs left doc replies payloads at a long =
       inside = a.inside;
     }
 
-pub answering_all : (docs : List Elements) (replies : List Reply) (payloads : List (List ℕ)) (at : ℕ) → Answering docs [] replies payloads at → AnswersAll docs replies payloads
-answering_all docs replies payloads at a = record {
-  each = sym (append-nil replies) ∙ a.each;
-  kept = sym (append-nil payloads) ∙ a.kept;
-  room = subst (λ (ps : List (List ℕ)). Fit first_at ps) (append-nil payloads) (a.room [] tt);
-}
+pub answering_all : (docs : List Elements) (replies : List Reply) (payloads : List (List ℕ)) (at : ℕ) → Answering docs [] replies payloads at → (replies ≡ replies_of docs) × (payloads ≡ map spelling (stored docs))
+answering_all docs replies payloads at a = (sym (append-nil replies) ∙ a.each, sym (append-nil payloads) ∙ a.kept)

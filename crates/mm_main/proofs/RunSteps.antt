@@ -1,15 +1,14 @@
--- Steps of a run.
+-- Steps of playing.
 use Rattle.std.proofs.Common.{◌≡◌, ℕ, ◌+◌, ◌<◌, List, [], ◌∷◌, length, map, get_or, ap, ◌∙◌, sym, arith, inl, refl, Option, subst}
 use Rattle.mm_outside.specs.Told.{Told}
 use Rattle.mm_bson.specs.Tree.{Elements}
-use Rattle.mm_main.specs.declared.run.End.{End}
-use Rattle.mm_main.specs.declared.run.End.TheVariants.{Usage, Refused, Present, Played, SourceFailed, DiskFailed, NoMemory}
-use Rattle.mm_main.specs.Ends.{IfComing, Plays, PlayEnds, Ends, IsRefusal}
+use Rattle.mm_main.specs.declared.play.End.{End}
+use Rattle.mm_main.specs.declared.play.End.TheVariants.{Refused, Present, Played, SourceFailed, DiskFailed, NoMemory}
+use Rattle.mm_main.specs.Ends.{IfComing, Plays, PlayEnds, IsRefusal}
 use Rattle.mm_main.specs.Script.{IsScript, IsFirstOther, most_bytes}
 use Rattle.mm_main.specs.Stored.{Began}
 use Rattle.mm_main.specs.Streams.{ReadsUpTo}
 use Rattle.mm_main.specs.Texts.{refusal_text}
-use Rattle.mm_main.specs.Words.{IsPlay}
 
 -- the first of some values, each seen as its bytes
 pub first_of_names : {X : Type 0} (f : X → List ℕ) (xs : List X) (x : X) → 0 < length xs → x ≡ get_or xs 0 x → (others : List (List ℕ)) × (map f xs ≡ f x ∷ others)
@@ -25,7 +24,6 @@ pub if_read : (P : List ℕ → Type 0) (bytes seen : List ℕ) (coming left : O
 if_read P bytes seen coming left reads same holds = λ all is. subst P (same ∙ (reads all is).0) holds
 
 pub plays_end : (collection : List ℕ) (docs : List Elements) (coming : Option (List ℕ)) (old new : Option Told) (end : End) → IfComing coming (IsScript collection docs) → Plays collection docs old new end → PlayEnds coming old new end
-plays_end collection docs coming old new Usage script plays = absurd plays
 plays_end collection docs coming old new (Refused line text) script plays = absurd plays
 plays_end collection docs coming old new (Present name text) script plays = (collection, docs, script, plays)
 plays_end collection docs coming old new (Played text) script plays = (collection, docs, script, plays)
@@ -34,19 +32,9 @@ plays_end collection docs coming old new DiskFailed script plays = (collection, 
 plays_end collection docs coming old new NoMemory script plays = plays
 
 pub refusal_ends : (line : ℕ) (coming : Option (List ℕ)) (old new : Option Told) (end : End) → IfComing coming (IsFirstOther line) → new ≡ old → IsRefusal line end → PlayEnds coming old new end
-refusal_ends line coming old new Usage first same refusal = absurd refusal
 refusal_ends line coming old new (Refused n text) first same refusal = (refusal.1 ∙ ap refusal_text (sym refusal.0), same, subst (λ (m : ℕ). IfComing coming (IsFirstOther m)) (sym refusal.0) first)
 refusal_ends line coming old new (Present name text) first same refusal = absurd refusal
 refusal_ends line coming old new (Played text) first same refusal = absurd refusal
 refusal_ends line coming old new SourceFailed first same refusal = absurd refusal
 refusal_ends line coming old new DiskFailed first same refusal = absurd refusal
 refusal_ends line coming old new NoMemory first same refusal = began_none old new same
-
-pub play_ends : (words : List (List ℕ)) (coming : Option (List ℕ)) (old new : Option Told) (end : End) → IsPlay words → PlayEnds coming old new end → Ends words coming old new end
-play_ends words coming old new Usage play ends = absurd ends
-play_ends words coming old new (Refused line text) play ends = (play, ends)
-play_ends words coming old new (Present name text) play ends = (play, ends)
-play_ends words coming old new (Played text) play ends = (play, ends)
-play_ends words coming old new SourceFailed play ends = (play, ends)
-play_ends words coming old new DiskFailed play ends = (play, ends)
-play_ends words coming old new NoMemory play ends = (play, ends)

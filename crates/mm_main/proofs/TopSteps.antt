@@ -1,4 +1,4 @@
--- What the top call promises, from what its run came to.
+-- What playing promises, from what it came to.
 use Rattle.std.proofs.Common.{◌≡◌, ℕ, ◌+◌, ◌<◌, zero, suc, List, [], ◌∷◌, length, take, ap, ◌∙◌, arith, inl, inr, refl, Option, Some, None, subst, false, is_some, ◌⊎◌}
 use Rattle.std.specs.FinMap.{get, keys, contains_key-keys}
 use Rattle.std.specs.Ordering.{eq_by_cmp}
@@ -10,19 +10,22 @@ use Rattle.mm_outside.specs.Ask.{asked, new_file_asks}
 use Rattle.mm_outside.proofs.Cuts.{cut_all}
 use Rattle.mm_outside.proofs.NewFile.{place_of_file_written, place_of_other_file}
 use Rattle.mm_bson.specs.Tree.{Elements}
-use Rattle.mm_main.specs.declared.run.End.{End}
-use Rattle.mm_main.specs.declared.run.End.TheVariants.{Usage, Refused, Present, Played, SourceFailed, DiskFailed, NoMemory}
+use Rattle.mm_main.specs.declared.play.End.{End}
+use Rattle.mm_main.specs.declared.play.End.TheVariants.{Refused, Present, Played, SourceFailed, DiskFailed, NoMemory}
 use Rattle.mm_main.specs.declared.status.Status.TheVariants as status
-use Rattle.mm_main.specs.Ends.{IfComing, IsAnyScript, Ends, end_text, end_status}
+use Rattle.mm_main.specs.Ends.{IfComing, IsAnyScript, PlayEnds, end_text, end_status}
+use Rattle.mm_main.specs.Contents.{full_name, doc_lines}
+use Rattle.mm_main.specs.Dumps.{IsAlone, IsTheDump}
 use Rattle.mm_main.specs.FirstFile.{IsFirstFile}
 use Rattle.mm_main.specs.Lines.{lines}
 use Rattle.mm_main.specs.Inserts.{AreInserts}
+use Rattle.mm_main.specs.Room.{stored}
 use Rattle.mm_main.specs.Script.{IsFirstOther, HaveForm, most_bytes}
 use Rattle.mm_main.specs.Stored.{HasStored, Stores, Began, file_name}
 use Rattle.mm_main.specs.Streams.{Says, SaysSome}
 use Rattle.mm_main.specs.Texts.{refusal_text}
 use Rattle.mm_main.specs.Top.{IsAmong, HasPlayed, OnlyAdds}
-use Rattle.mm_main.specs.Words.{IsPlay}
+use Rattle.mm_main.proofs.OneDump.{the_dump}
 use Rattle.mm_main.proofs.RunSteps.{began_none}
 
 -- ---- a script has no line of another form
@@ -67,6 +70,11 @@ has_stored collection docs old new s empty = λ t is. (
   },
 )
 
+dump_of_stored : (collection : List ℕ) (docs : List Elements) (u : Told) → HasStored collection docs u → IsTheDump (image_of u) status.Done (doc_lines (full_name collection) (stored docs))
+dump_of_stored collection docs u s =
+    let alone : IsAlone s.file (image_of u) = record { there = ap (λ p. p.file) s.synced; alone = s.alone } in
+    the_dump _ _ _ (inr (inr (s.file, alone, (collection, stored docs, s.holds, refl))))
+
 began_stores : (collection : List ℕ) (docs : List Elements) (old new : Option Told) → Stores collection docs old new → Began old new
 began_stores collection docs old new s = record { file = s.file; some = λ t is. (asked (new_file_asks file_name s.file) t, s.made t is, cut_all (new_file_asks file_name s.file) t) }
 
@@ -75,73 +83,78 @@ began_stores collection docs old new s = record { file = s.file; some = λ t is.
 says_as : (text same : List ℕ) (before after : Option (List ℕ)) → text ≡ same → Says text before after → Says same before after
 says_as text same before after is said = subst (λ (bytes : List ℕ). Says bytes before after) is said
 
-pub played_by : (words : List (List ℕ)) (coming : Option (List ℕ)) (old new : Option Told) (before after : Option (List ℕ)) (end : End) → Ends words coming old new end → Says (end_text end) before after
+pub played_by : (coming : Option (List ℕ)) (old new : Option Told) (before after : Option (List ℕ)) (end : End) → PlayEnds coming old new end → Says (end_text end) before after
     → end_status end ≡ status.Done → HasPlayed coming old new before after
-played_by words coming old new before after Usage ends said done = absurd cc
-played_by words coming old new before after (Refused line text) ends said done = absurd cc
-played_by words coming old new before after (Present name text) ends said done = absurd cc
-played_by words coming old new before after (Played text) ends said done = record {
-  collection = ends.1.0;
-  docs = ends.1.1;
-  script = ends.1.2;
-  empty = ends.1.3.1;
-  stored = has_stored ends.1.0 ends.1.1 old new ends.1.3.2 ends.1.3.1;
-  said = says_as _ _ before after ends.1.3.0 said;
+played_by coming old new before after (Refused line text) ends said done = absurd cc
+played_by coming old new before after (Present name text) ends said done = absurd cc
+played_by coming old new before after (Played text) ends said done = record {
+  collection = ends.0;
+  docs = ends.1;
+  script = ends.2;
+  empty = ends.3.1;
+  stored = has_stored ends.0 ends.1 old new ends.3.2 ends.3.1;
+  dumps = λ t is.
+      let after = has_stored ends.0 ends.1 old new ends.3.2 ends.3.1 t is in
+      (after.0, after.1, dump_of_stored ends.0 ends.1 after.0 after.2);
+  said = says_as _ _ before after ends.3.0 said;
 }
-played_by words coming old new before after SourceFailed ends said done = absurd cc
-played_by words coming old new before after DiskFailed ends said done = absurd cc
-played_by words coming old new before after NoMemory ends said done = absurd cc
+played_by coming old new before after SourceFailed ends said done = absurd cc
+played_by coming old new before after DiskFailed ends said done = absurd cc
+played_by coming old new before after NoMemory ends said done = absurd cc
 
-pub refused_by : (words : List (List ℕ)) (coming : Option (List ℕ)) (old new : Option Told) (before after : Option (List ℕ)) (end : End) → Ends words coming old new end → Says (end_text end) before after
-    → end_status end ≡ status.ScriptRefused → IsPlay words × (line : ℕ) × IfComing coming (IsFirstOther line) × Says (refusal_text line) before after
-refused_by words coming old new before after Usage ends said done = absurd cc
-refused_by words coming old new before after (Refused line text) ends said done = (ends.0, line, ends.1.2, says_as _ _ before after ends.1.0 said)
-refused_by words coming old new before after (Present name text) ends said done = absurd cc
-refused_by words coming old new before after (Played text) ends said done = absurd cc
-refused_by words coming old new before after SourceFailed ends said done = absurd cc
-refused_by words coming old new before after DiskFailed ends said done = absurd cc
-refused_by words coming old new before after NoMemory ends said done = absurd cc
+pub refused_by : (coming : Option (List ℕ)) (old new : Option Told) (before after : Option (List ℕ)) (end : End) → PlayEnds coming old new end → Says (end_text end) before after
+    → end_status end ≡ status.ScriptRefused → (line : ℕ) × IfComing coming (IsFirstOther line) × Says (refusal_text line) before after
+refused_by coming old new before after (Refused line text) ends said done = (line, ends.2, says_as _ _ before after ends.0 said)
+refused_by coming old new before after (Present name text) ends said done = absurd cc
+refused_by coming old new before after (Played text) ends said done = absurd cc
+refused_by coming old new before after SourceFailed ends said done = absurd cc
+refused_by coming old new before after DiskFailed ends said done = absurd cc
+refused_by coming old new before after NoMemory ends said done = absurd cc
 
-pub refused_exactly_by : (words : List (List ℕ)) (coming : Option (List ℕ)) (old new : Option Told) (end : End) → Ends words coming old new end → IsPlay words → (bytes : List ℕ) (line : ℕ) → coming ≡ Some bytes
+pub refused_exactly_by : (coming : Option (List ℕ)) (old new : Option Told) (end : End) → PlayEnds coming old new end → (bytes : List ℕ) (line : ℕ) → coming ≡ Some bytes
     → IsFirstOther line (take (most_bytes + 1) bytes) → IsAmong (end_status end) (status.ScriptRefused ∷ status.SourceFault ∷ status.SinkFault ∷ status.NoMemory ∷ [])
-refused_exactly_by words coming old new Usage ends play bytes line is first = absurd (ends.0 play)
-refused_exactly_by words coming old new (Refused n text) ends play bytes line is first = inl refl
-refused_exactly_by words coming old new (Present name text) ends play bytes line is first = absurd (script_or_other _ line (ends.1.0, ends.1.1, ends.1.2 bytes is) first)
-refused_exactly_by words coming old new (Played text) ends play bytes line is first = absurd (script_or_other _ line (ends.1.0, ends.1.1, ends.1.2 bytes is) first)
-refused_exactly_by words coming old new SourceFailed ends play bytes line is first = inr (inl refl)
-refused_exactly_by words coming old new DiskFailed ends play bytes line is first = absurd (script_or_other _ line (ends.1.0, ends.1.1, ends.1.2 bytes is) first)
-refused_exactly_by words coming old new NoMemory ends play bytes line is first = inr (inr (inr (inl refl)))
+refused_exactly_by coming old new (Refused n text) ends bytes line is first = inl refl
+refused_exactly_by coming old new (Present name text) ends bytes line is first = absurd (script_or_other _ line (ends.0, ends.1, ends.2 bytes is) first)
+refused_exactly_by coming old new (Played text) ends bytes line is first = absurd (script_or_other _ line (ends.0, ends.1, ends.2 bytes is) first)
+refused_exactly_by coming old new SourceFailed ends bytes line is first = inr (inl refl)
+refused_exactly_by coming old new DiskFailed ends bytes line is first = absurd (script_or_other _ line (ends.0, ends.1, ends.2 bytes is) first)
+refused_exactly_by coming old new NoMemory ends bytes line is first = inr (inr (inr (inl refl)))
 
-pub present_exactly_by : (words : List (List ℕ)) (coming : Option (List ℕ)) (old new : Option Told) (end : End) → Ends words coming old new end → IsPlay words → (bytes : List ℕ) (t : Told) (name : List ℕ) → coming ≡ Some bytes
+pub present_exactly_by : (coming : Option (List ℕ)) (old new : Option Told) (end : End) → PlayEnds coming old new end → (bytes : List ℕ) (t : Told) (name : List ℕ) → coming ≡ Some bytes
     → IsAnyScript (take (most_bytes + 1) bytes) → old ≡ Some t → IsFirstFile (Some name) (keys (image_of t))
     → IsAmong (end_status end) (status.FilesRefused ∷ status.DiskFault ∷ status.SourceFault ∷ status.SinkFault ∷ status.NoMemory ∷ [])
-present_exactly_by words coming old new Usage ends play bytes t name is any told first = absurd (ends.0 play)
-present_exactly_by words coming old new (Refused n text) ends play bytes t name is any told first = absurd (script_or_other _ n any (ends.1.2 bytes is))
-present_exactly_by words coming old new (Present one text) ends play bytes t name is any told first = inl refl
-present_exactly_by words coming old new (Played text) ends play bytes t name is any told first = absurd (cc (ends.1.3.1 t told, first.1))
-present_exactly_by words coming old new SourceFailed ends play bytes t name is any told first = inr (inr (inl refl))
-present_exactly_by words coming old new DiskFailed ends play bytes t name is any told first = inr (inl refl)
-present_exactly_by words coming old new NoMemory ends play bytes t name is any told first = inr (inr (inr (inr (inl refl))))
+present_exactly_by coming old new (Refused n text) ends bytes t name is any told first = absurd (script_or_other _ n any (ends.2 bytes is))
+present_exactly_by coming old new (Present one text) ends bytes t name is any told first = inl refl
+present_exactly_by coming old new (Played text) ends bytes t name is any told first = absurd (cc (ends.3.1 t told, first.1))
+present_exactly_by coming old new SourceFailed ends bytes t name is any told first = inr (inr (inl refl))
+present_exactly_by coming old new DiskFailed ends bytes t name is any told first = inr (inl refl)
+present_exactly_by coming old new NoMemory ends bytes t name is any told first = inr (inr (inr (inr (inl refl))))
 
-pub complete_by : (words : List (List ℕ)) (coming : Option (List ℕ)) (old new : Option Told) (end : End) → Ends words coming old new end → IsPlay words → (bytes : List ℕ) (t : Told) → coming ≡ Some bytes
+pub complete_by : (coming : Option (List ℕ)) (old new : Option Told) (end : End) → PlayEnds coming old new end → (bytes : List ℕ) (t : Told) → coming ≡ Some bytes
     → IsAnyScript (take (most_bytes + 1) bytes) → old ≡ Some t → keys (image_of t) ≡ []
     → IsAmong (end_status end) (status.Done ∷ status.DiskFault ∷ status.SourceFault ∷ status.SinkFault ∷ status.NoMemory ∷ [])
-complete_by words coming old new Usage ends play bytes t is any told none = absurd (ends.0 play)
-complete_by words coming old new (Refused n text) ends play bytes t is any told none = absurd (script_or_other _ n any (ends.1.2 bytes is))
-complete_by words coming old new (Present one text) ends play bytes t is any told none = absurd (cc (none, (ends.1.3.2 t told).1))
-complete_by words coming old new (Played text) ends play bytes t is any told none = inl refl
-complete_by words coming old new SourceFailed ends play bytes t is any told none = inr (inr (inl refl))
-complete_by words coming old new DiskFailed ends play bytes t is any told none = inr (inl refl)
-complete_by words coming old new NoMemory ends play bytes t is any told none = inr (inr (inr (inr (inl refl))))
+complete_by coming old new (Refused n text) ends bytes t is any told none = absurd (script_or_other _ n any (ends.2 bytes is))
+complete_by coming old new (Present one text) ends bytes t is any told none = absurd (cc (none, (ends.3.2 t told).1))
+complete_by coming old new (Played text) ends bytes t is any told none = inl refl
+complete_by coming old new SourceFailed ends bytes t is any told none = inr (inr (inl refl))
+complete_by coming old new DiskFailed ends bytes t is any told none = inr (inl refl)
+complete_by coming old new NoMemory ends bytes t is any told none = inr (inr (inr (inr (inl refl))))
 
-pub began_by : (words : List (List ℕ)) (coming : Option (List ℕ)) (old new : Option Told) (end : End) → Ends words coming old new end → Began old new
-began_by words coming old new Usage ends = began_none old new ends.1
-began_by words coming old new (Refused line text) ends = began_none old new ends.1.1
-began_by words coming old new (Present name text) ends = began_none old new ends.1.3.1
-began_by words coming old new (Played text) ends = began_stores ends.1.0 ends.1.1 old new ends.1.3.2
-began_by words coming old new SourceFailed ends = began_none old new ends.1
-began_by words coming old new DiskFailed ends = ends.1.3
-began_by words coming old new NoMemory ends = ends.1
+pub among_by : (end : End) → IsAmong (end_status end) (status.Done ∷ status.ScriptRefused ∷ status.DiskFault ∷ status.SourceFault ∷ status.SinkFault ∷ status.NoMemory ∷ status.FilesRefused ∷ [])
+among_by (Refused line text) = inr (inl refl)
+among_by (Present name text) = inr (inr (inr (inr (inr (inr (inl refl))))))
+among_by (Played text) = inl refl
+among_by SourceFailed = inr (inr (inr (inl refl)))
+among_by DiskFailed = inr (inr (inl refl))
+among_by NoMemory = inr (inr (inr (inr (inr (inl refl)))))
+
+pub began_by : (coming : Option (List ℕ)) (old new : Option Told) (end : End) → PlayEnds coming old new end → Began old new
+began_by coming old new (Refused line text) ends = began_none old new ends.1
+began_by coming old new (Present name text) ends = began_none old new ends.3.1
+began_by coming old new (Played text) ends = began_stores ends.0 ends.1 old new ends.3.2
+began_by coming old new SourceFailed ends = began_none old new ends
+began_by coming old new DiskFailed ends = ends.3
+began_by coming old new NoMemory ends = ends
 
 pub adds_by : (text : List ℕ) (before after : Option (List ℕ)) → SaysSome text before after → OnlyAdds before after
 adds_by text before after said = λ taken is. (take (said taken is).0 text, (said taken is).1)

@@ -99,6 +99,8 @@ Holds file collection [] = HasFileHeader file extent_at
 Holds file collection (payload ∷ payloads) =
     HasFileHeader file file_len × HasExtentHeader file collection (last_from first_at (negsuc 0) (payload ∷ payloads)) × AreRecords file first_at (negsuc 0) (payload ∷ payloads)
 
+-- the file is written so, each payload where it has room
 pub record IsFile (collection : List ℕ) (payloads : List (List ℕ)) (file : List ℕ) : Type 0 where
   pub size : length file ≡ file_len
+  pub fit : Fit first_at payloads
   pub holds : Holds file collection payloads

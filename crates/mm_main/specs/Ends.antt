@@ -1,24 +1,22 @@
--- What a run came to, before it is printed.
+-- What playing came to, before it is printed.
 use Rattle.std.specs.Prelude.{◌≡◌, ℕ, ◌+◌, List, [], take, Option, Some, string_bytes}
 use Rattle.std.specs.FinMap.{keys}
 use Rattle.mm_outside.specs.Told.{Told, IfTold, image_of}
 use Rattle.mm_bson.specs.Tree.{Elements}
 use Rattle.mm_main.specs.declared.status.Status.{Status}
 use Rattle.mm_main.specs.declared.status.Status.TheVariants as status
-use Rattle.mm_main.specs.declared.run.End.{End}
-use Rattle.mm_main.specs.declared.run.End.TheVariants.{Usage, Refused, Present, Played, SourceFailed, DiskFailed, NoMemory}
-use Rattle.mm_main.specs.declared.text.TheConstants.{USAGE, DISK_FAULT, SOURCE_FAULT, NO_MEMORY}
+use Rattle.mm_main.specs.declared.play.End.{End}
+use Rattle.mm_main.specs.declared.play.End.TheVariants.{Refused, Present, Played, SourceFailed, DiskFailed, NoMemory}
+use Rattle.mm_main.specs.declared.text.TheConstants.{DISK_FAULT, SOURCE_FAULT, NO_MEMORY}
 use Rattle.mm_main.specs.Answers.{reply_lines}
 use Rattle.mm_main.specs.FirstFile.{IsFirstFile}
 use Rattle.mm_main.specs.Room.{replies_of}
 use Rattle.mm_main.specs.Script.{IsScript, IsFirstOther, most_bytes}
 use Rattle.mm_main.specs.Stored.{Stores, Began}
 use Rattle.mm_main.specs.Texts.{refusal_text, present_text}
-use Rattle.mm_main.specs.Words.{IsPlay}
 
 -- what it says
 abbrev pub end_text : End → List ℕ
-end_text Usage = USAGE.now
 end_text (Refused line text) = string_bytes text
 end_text (Present name text) = string_bytes text
 end_text (Played text) = string_bytes text
@@ -27,7 +25,6 @@ end_text DiskFailed = DISK_FAULT.now
 end_text NoMemory = NO_MEMORY.now
 
 abbrev pub end_status : End → Status
-end_status Usage = status.Usage
 end_status (Refused line text) = status.ScriptRefused
 end_status (Present name text) = status.FilesRefused
 end_status (Played text) = status.Done
@@ -59,12 +56,6 @@ PlayEnds coming old new (Present name text) = (collection : List ℕ) × (docs :
 PlayEnds coming old new (Played text) = (collection : List ℕ) × (docs : List Elements) × IfComing coming (IsScript collection docs) × Plays collection docs old new (Played text)
 PlayEnds coming old new DiskFailed = (collection : List ℕ) × (docs : List Elements) × IfComing coming (IsScript collection docs) × Began old new
 PlayEnds coming old new NoMemory = Began old new
-PlayEnds coming old new Usage = ⊥
-
--- what the words come to
-abbrev pub Ends : List (List ℕ) → Option (List ℕ) → Option Told → Option Told → End → Type 0
-Ends words coming old new Usage = (IsPlay words → ⊥) × (new ≡ old)
-Ends words coming old new end = IsPlay words × PlayEnds coming old new end
 
 -- the line is refused, or memory ran out
 abbrev pub IsRefusal : ℕ → End → Type 0

@@ -6,7 +6,7 @@ use Rattle.mm_outside.specs.Ask.{Makes, MakesSome, new_file_asks}
 use Rattle.mm_outside.specs.Place.{place_of, clean}
 use Rattle.mm_bson.specs.Tree.{Elements}
 use Rattle.mm_bson.specs.Spelling.{spelling}
-use Rattle.mm_main.specs.DataFile.{IsFile}
+use Rattle.mm_main.specs.Contents.{HoldsDocs}
 use Rattle.mm_main.specs.Live.{HasLive}
 use Rattle.mm_main.specs.Room.{stored}
 
@@ -18,7 +18,7 @@ file_name = codes "test.0"
 -- those documents, and nothing of it is pending: a crash leaves it as it is.
 pub record HasStored (collection : List ℕ) (docs : List Elements) (u : Told) : Type 0 where
   pub file : List ℕ
-  pub holds : IsFile collection (map spelling (stored docs)) file
+  pub holds : HoldsDocs collection (stored docs) file
   pub live : HasLive file (map spelling (stored docs))
   pub synced : place_of u file_name ≡ clean (Some file)
   pub alone : (name : List ℕ) → name ≢ file_name → get (image_of u) name ≡ None
@@ -26,7 +26,7 @@ pub record HasStored (collection : List ℕ) (docs : List Elements) (u : Told) :
 -- the calls that store this file are made
 pub record Stores (collection : List ℕ) (docs : List Elements) (old new : Option Told) : Type 0 where
   pub file : List ℕ
-  pub holds : IsFile collection (map spelling (stored docs)) file
+  pub holds : HoldsDocs collection (stored docs) file
   pub live : HasLive file (map spelling (stored docs))
   pub made : Makes (new_file_asks file_name file) old new
 

@@ -1,6 +1,8 @@
--- The texts of a run that isn't begun.
+-- The texts of a run that isn't begun, and of a data file with a finding.
 use Rattle.std.specs.Prelude.{ℕ, List, ◌++◌, codes}
 use Rattle.std.specs.Fmt.{decimal}
+use Rattle.mm_main.specs.declared.finding.What.{What}
+use Rattle.mm_main.specs.declared.finding.What.TheVariants.{File, Extent, Chain, Tiling, Document}
 
 -- a script's line is the first of another form
 abbrev pub refusal_text : ℕ → List ℕ
@@ -9,3 +11,15 @@ refusal_text line = codes "line " ++ (decimal line ++ codes ": form\n")
 -- a file is there
 abbrev pub present_text : List ℕ → List ℕ
 present_text name = codes "bad file " ++ (name ++ codes " 0 present\n")
+
+-- the word of a part of the format
+abbrev pub word_of : What → List ℕ
+word_of File = codes "file"
+word_of Extent = codes "extent"
+word_of Chain = codes "chain"
+word_of Tiling = codes "tiling"
+word_of Document = codes "document"
+
+-- what is first wrong in the data file
+abbrev pub finding_text : ℕ → What → List ℕ
+finding_text at what = codes "bad file test.0 " ++ (decimal at ++ (codes " " ++ (word_of what ++ codes "\n")))

@@ -1,12 +1,6 @@
-// Which documents find room, and what is answered.
-ghost use Rattle.std.specs.Prelude.{◌≡◌, ◌+◌, ◌-◌, ◌^◌, ◌<◌, ◌≤◌, length, map, IfOk};
-ghost use Rattle.mm_bson.specs.Spelling.{spelling};
-ghost use Rattle.mm_main.specs.Room.{file_len, first_at, request, block_len, doubled_to};
-ghost use Rattle.mm_main.specs.Answers.{AnswersAll};
-
-use mm_base::NoMemory;
-use mm_bson::Doc;
-use std::alloc::Global;
+// How long blocks are, and what is answered.
+ghost use Rattle.std.specs.Prelude.{◌≡◌, ◌+◌, ◌-◌, ◌^◌, ◌<◌, ◌≤◌};
+ghost use Rattle.mm_main.specs.Room.{file_len, request, block_len, doubled_to};
 
 /// The length of the data file, in bytes.
 pub const FILE_LEN: usize = 1_048_576;
@@ -32,13 +26,6 @@ pub enum Reply {
     Done,
     /// Fewer bytes are left than its block asks for.
     NoSpace,
-}
-
-/// The reply to each document, and the bytes of those that are stored.
-#[derive(Drop)]
-pub struct Answers<'a> {
-    pub replies: Vec<Reply>,
-    pub payloads: Vec<&'a [u8]>,
 }
 
 // The least block of a power of two that has so many bytes.
@@ -88,24 +75,4 @@ pub fn block_len(at: usize, payload: usize) -> usize
         return FILE_LEN - at;
     }
     len
-}
-
-/// Answers the inserts in their order.
-pub fn answer<'a>(alloc: Global, docs: &'a [Doc]) -> Result<Answers<'a>, NoMemory>
-    ensures { IfOk result (λ answers. AnswersAll docs.now answers.replies.items (map (λ bytes. bytes.now) answers.payloads.items)) }
-{
-    let mut replies = Vec::new(alloc);
-    let mut payloads = Vec::new(alloc);
-    let mut at = FIRST_AT;
-    for doc in docs {
-        let bytes = doc.bytes();
-        if request(bytes.len()) <= FILE_LEN - at {
-            payloads.push(bytes)?;
-            replies.push(Reply::Done)?;
-            at += block_len(at, bytes.len());
-        } else {
-            replies.push(Reply::NoSpace)?;
-        }
-    }
-    Ok(Answers { replies, payloads })
 }

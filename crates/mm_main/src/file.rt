@@ -1,26 +1,43 @@
-// The data file of one collection, written whole.
-ghost use Rattle.std.specs.Prelude.{◌≡◌, ◌+◌, ◌<◌, ◌≤◌, ◌^◌, ℕ, pos, negsuc, true, false, length, map, IfOk};
+// The data file of one collection, which is changed in drafts.
+ghost use Rattle.std.specs.Prelude.{◌≡◌, ◌+◌, ◌-◌, ◌<◌, ◌≤◌, ◌^◌, ℕ, ℤ, List, [], ◌∷◌, ◌++◌, pos, negsuc, length, Some, OnOk, IfOk};
+ghost use Rattle.mm_base.specs.Bytes.{part, overwritten};
 ghost use Rattle.mm_base.specs.Places.{null};
-ghost use Rattle.mm_main.specs.Room.{file_len, extent_at, first_at};
-ghost use Rattle.mm_main.specs.DataFile.{at_file_0, HasFileHeader, HasExtentHeader, IsRecord, IsRest, AreRecords, Fit, IsFile, Holds, last_from, namespace_of};
-ghost use Rattle.mm_main.specs.Live.{HasLive};
+ghost use Rattle.mm_base.specs.Tables.{HasAll};
+ghost use Rattle.mm_frames.specs.RecHeader.{rec_header_of, rec_header_table};
+ghost use Rattle.mm_main.specs.Room.{file_len, extent_at, first_at, request, block_len};
+ghost use Rattle.mm_main.specs.DataFile.{at_file_0, linked, HasFileHeader, HasExtentHeader, IsRecord, IsRest, namespace_of};
+ghost use Rattle.mm_main.specs.Drafted.{drafted, Keeps, Stands, LeadsOn, SameBetween};
 ghost use Rattle.mm_main.specs.Written.{SameBefore, SameBehind};
 
 use crate::answers::{EXTENT_AT, FILE_LEN, FIRST_AT, block_len};
 use mm_base::{DiskLoc, NoMemory, put_bytes};
 use mm_frames::{
     CHAIN_END, DeletedHeader, EXTENT_MAGIC, ExtentHeader, FileHeader, REC_HEADER_LEN, RecHeader,
-    put_deleted_header, put_extent_header, put_file_header, put_rec_header,
+    deleted_header_frame, extent_header_frame, file_header_frame, read_rec_header,
+    rec_header_frame,
 };
-use std::alloc::Global;
+use mm_views::Draft;
 
-const EXTENT_LEN: i32 = 1_040_384;
+/// The number of the data file.
+pub const FILE: u32 = 0;
 
-const VERSION: u32 = 4;
+/// The length of the one extent, in bytes.
+pub const EXTENT_LEN: i32 = 1_040_384;
 
-const VERSION_MINOR: u32 = 5;
+/// The version of a data file.
+pub const VERSION: u32 = 4;
+
+/// The minor version of a data file.
+pub const VERSION_MINOR: u32 = 5;
 
 const NAMESPACE_LEN: usize = 128;
+
+/// Where the blocks of the records end, and the offset of the last record, if there is one.
+#[derive(Clone, Copy, Debug, PartialEq, Eq)]
+pub struct Chain {
+    pub end: usize,
+    pub last: Option<usize>,
+}
 
 // An offset of the file number 0.
 fn place_at(ofs: usize) -> DiskLoc
@@ -40,12 +57,26 @@ fn no_place() -> DiskLoc
     DiskLoc::NULL
 }
 
-// Writes the file's header.
-fn put_header(file: &mut [u8], unused: usize)
-    requires size { length file.old ≡ file_len }
+// Declares some bytes of the file, and writes them.
+fn put(draft: &mut Draft, at: usize, bytes: &[u8]) -> Result<(), NoMemory>
+    requires size { length (drafted draft.old) ≡ file_len }
+    requires some { 0 < length bytes.now }
+    requires inside { at + length bytes.now ≤ file_len }
+    ensures ok { OnOk result (drafted draft.new ≡ overwritten at bytes.now (drafted draft.old)) }
+    ensures keeps { Keeps draft.old draft.new }
+{
+    draft.declare(FILE, at as u32, bytes.len() as u32)?;
+    draft.write(FILE, at as u32, bytes);
+    Ok(())
+}
+
+/// Writes the file's header.
+pub fn put_header(draft: &mut Draft, unused: usize) -> Result<(), NoMemory>
+    requires size { length (drafted draft.old) ≡ file_len }
     requires unused { unused ≤ file_len }
-    ensures header { HasFileHeader file.new unused }
-    ensures behind { SameBehind extent_at file.old file.new }
+    ensures header { OnOk result (HasFileHeader (drafted draft.new) unused) }
+    ensures behind { OnOk result (SameBehind extent_at (drafted draft.old) (drafted draft.new)) }
+    ensures keeps { Keeps draft.old draft.new }
 {
     let header = FileHeader {
         version: VERSION,
@@ -54,7 +85,7 @@ fn put_header(file: &mut [u8], unused: usize)
         unused: place_at(unused),
         unused_length: (FILE_LEN - unused) as u32,
     };
-    put_file_header(file, 0, &header);
+    put(draft, 0, &file_header_frame(&header))
 }
 
 // The namespace of a collection of the database `test`.
@@ -69,13 +100,14 @@ fn namespace_of(collection: &[u8]) -> [u8; NAMESPACE_LEN]
 }
 
 // Writes the header of the one extent.
-fn put_extent(file: &mut [u8], collection: &[u8], last: usize)
-    requires size { length file.old ≡ file_len }
+fn put_extent(draft: &mut Draft, collection: &[u8], last: usize) -> Result<(), NoMemory>
+    requires size { length (drafted draft.old) ≡ file_len }
     requires name { length collection.now ≤ 60 }
     requires last { last ≤ file_len }
-    ensures header { HasExtentHeader file.new collection.now (pos last) }
-    ensures before { SameBefore extent_at file.old file.new }
-    ensures behind { SameBehind first_at file.old file.new }
+    ensures header { OnOk result (HasExtentHeader (drafted draft.new) collection.now (pos last)) }
+    ensures before { OnOk result (SameBefore extent_at (drafted draft.old) (drafted draft.new)) }
+    ensures behind { OnOk result (SameBehind first_at (drafted draft.old) (drafted draft.new)) }
+    ensures keeps { Keeps draft.old draft.new }
 {
     let header = ExtentHeader {
         magic: EXTENT_MAGIC,
@@ -87,128 +119,172 @@ fn put_extent(file: &mut [u8], collection: &[u8], last: usize)
         first_record: place_at(FIRST_AT),
         last_record: place_at(last),
     };
-    put_extent_header(file, EXTENT_AT, &header);
+    put(draft, EXTENT_AT, &extent_header_frame(&header))
 }
 
-// Writes a record with its links.
-fn put_record(file: &mut [u8], at: usize, len: usize, prev: i32, next: i32, payload: &[u8])
-    requires size { length file.old ≡ file_len }
+// Writes a record's payload behind its header.
+fn put_payload(draft: &mut Draft, at: usize, payload: &[u8]) -> Result<(), NoMemory>
+    requires size { length (drafted draft.old) ≡ file_len }
+    requires inside { at + 16 + length payload.now ≤ file_len }
+    ensures ok { OnOk result (drafted draft.new ≡ overwritten (at + 16) payload.now (drafted draft.old)) }
+    ensures keeps { Keeps draft.old draft.new }
+{
+    if payload.is_empty() {
+        return Ok(());
+    }
+    put(draft, at + REC_HEADER_LEN, payload)
+}
+
+// Writes the last record.
+fn put_record(
+    draft: &mut Draft,
+    at: usize,
+    len: usize,
+    prev: i32,
+    payload: &[u8],
+) -> Result<(), NoMemory>
+    requires size { length (drafted draft.old) ≡ file_len }
     requires inside { at + len ≤ file_len }
     requires room { length payload.now + 16 ≤ len }
-    ensures written { IsRecord file.new at len prev next payload.now }
-    ensures before { SameBefore at file.old file.new }
+    ensures written { OnOk result (IsRecord (drafted draft.new) at len prev (negsuc 0) payload.now) }
+    ensures before { OnOk result (SameBefore at (drafted draft.old) (drafted draft.new)) }
+    ensures keeps { Keeps draft.old draft.new }
 {
     let header = RecHeader {
         length_with_headers: len as i32,
         extent_ofs: EXTENT_AT as i32,
-        next_ofs: next,
+        next_ofs: CHAIN_END,
         prev_ofs: prev,
     };
-    put_rec_header(file, at, &header);
-    put_bytes(file, at + REC_HEADER_LEN, payload);
+    put(draft, at, &rec_header_frame(&header))?;
+    put_payload(draft, at, payload)
+}
+
+// Makes the last record so far lead on.
+fn put_next(draft: &mut Draft, last: usize, next: usize) -> Result<(), NoMemory>
+    requires size { length (drafted draft.old) ≡ file_len }
+    requires last { last + 16 ≤ file_len }
+    requires next { next ≤ file_len }
+    ensures leads { OnOk result (LeadsOn last next (drafted draft.old) (drafted draft.new)) }
+    ensures before { OnOk result (SameBefore last (drafted draft.old) (drafted draft.new)) }
+    ensures behind { OnOk result (SameBehind (last + 16) (drafted draft.old) (drafted draft.new)) }
+    ensures keeps { Keeps draft.old draft.new }
+{
+    let mut frame = [0; REC_HEADER_LEN];
+    draft.read(FILE, last as u32, &mut frame);
+    let header = RecHeader {
+        next_ofs: next as i32,
+        ..read_rec_header(&frame, 0)
+    };
+    put(draft, last, &rec_header_frame(&header))
 }
 
 // Makes one deleted block of what is left of the extent.
-fn put_rest(file: &mut [u8], at: usize)
-    requires size { length file.old ≡ file_len }
+fn put_rest(draft: &mut Draft, at: usize) -> Result<(), NoMemory>
+    requires size { length (drafted draft.old) ≡ file_len }
     requires inside { at ≤ file_len }
     requires no_crumb { at < file_len → at + 32 ≤ file_len }
-    ensures rest { IsRest file.new at }
-    ensures before { SameBefore at file.old file.new }
+    ensures rest { OnOk result (IsRest (drafted draft.new) at) }
+    ensures before { OnOk result (SameBefore at (drafted draft.old) (drafted draft.new)) }
+    ensures keeps { Keeps draft.old draft.new }
 {
     if at == FILE_LEN {
-        return;
+        return Ok(());
     }
     let header = DeletedHeader {
         length_with_headers: (FILE_LEN - at) as i32,
         extent_ofs: EXTENT_AT as i32,
         next_deleted: no_place(),
     };
-    put_deleted_header(file, at, &header);
+    put(draft, at, &deleted_header_frame(&header))
 }
 
-// The link to the next block.
-fn link_to(at: usize, is_last: bool) -> i32
-    requires { at ≤ file_len }
-    ensures last { is_last ≡ true → result ≡ negsuc 0 }
-    ensures next { is_last ≡ false → result ≡ pos at }
+// Writes the extent with one record more, and what is left behind it.
+fn put_block(
+    draft: &mut Draft,
+    collection: &[u8],
+    at: usize,
+    prev: i32,
+    payload: &[u8],
+) -> Result<Chain, NoMemory>
+    requires size { length (drafted draft.old) ≡ file_len }
+    requires name { length collection.now ≤ 60 }
+    requires behind { first_at ≤ at }
+    requires payload { length payload.now < 2 ^ 63 }
+    requires room { request (length payload.now) ≤ file_len - at }
+    ensures chain { IfOk result (λ chain. (chain.end ≡ at + block_len at (length payload.now)) × (chain.last ≡ Some at)) }
+    ensures extent { OnOk result (HasExtentHeader (drafted draft.new) collection.now (pos at)) }
+    ensures record { OnOk result (IsRecord (drafted draft.new) at (block_len at (length payload.now)) prev (negsuc 0) payload.now) }
+    ensures rest { OnOk result (IsRest (drafted draft.new) (at + block_len at (length payload.now))) }
+    ensures before { OnOk result (SameBefore extent_at (drafted draft.old) (drafted draft.new)) }
+    ensures between { OnOk result (SameBetween first_at at (drafted draft.old) (drafted draft.new)) }
+    ensures keeps { Keeps draft.old draft.new }
 {
-    if is_last { CHAIN_END } else { at as i32 }
+    let len = block_len(at, payload.len());
+    put_extent(draft, collection, at)?;
+    put_record(draft, at, len, prev, payload)?;
+    put_rest(draft, at + len)?;
+    Ok(Chain {
+        end: at + len,
+        last: Some(at),
+    })
 }
 
-// Writes the records back to back, and answers where the last one lies, if there is one.
-fn put_records(file: &mut [u8], payloads: &[&[u8]]) -> i32
-    requires size { length file.old ≡ file_len }
-    requires fit { Fit first_at (map (λ payload. payload.now) payloads.now) }
-    ensures records { AreRecords file.new first_at (negsuc 0) (map (λ payload. payload.now) payloads.now) }
-    ensures last { result ≡ last_from first_at (negsuc 0) (map (λ payload. payload.now) payloads.now) }
-    ensures inside { 0 < length payloads.now → (at : ℕ) × (result ≡ pos at) × (at ≤ file_len) }
-    ensures before { SameBefore first_at file.old file.new }
+// Writes the extent with its first record.
+fn insert_first(draft: &mut Draft, collection: &[u8], payload: &[u8]) -> Result<Chain, NoMemory>
+    requires size { length (drafted draft.old) ≡ file_len }
+    requires name { length collection.now ≤ 60 }
+    requires payload { length payload.now < 2 ^ 63 }
+    requires room { request (length payload.now) ≤ file_len - first_at }
+    ensures stands { IfOk result (λ chain. Stands collection.now (payload.now ∷ []) (drafted draft.new) chain.end chain.last) }
+    ensures keeps { Keeps draft.old draft.new }
 {
-    let mut at = FIRST_AT;
-    let mut prev = CHAIN_END;
-    for (i, payload) in payloads.iter().enumerate() {
-        let len = block_len(at, payload.len());
-        let next = link_to(at + len, i + 1 == payloads.len());
-        put_record(file, at, len, prev, next, payload);
-        prev = at as i32;
-        at += len;
+    put_header(draft, FILE_LEN)?;
+    put_block(draft, collection, FIRST_AT, CHAIN_END, payload)
+}
+
+// Writes one record more behind the last one.
+fn insert_next(
+    draft: &mut Draft,
+    collection: &[u8],
+    last: usize,
+    at: usize,
+    payload: &[u8],
+) -> Result<Chain, NoMemory>
+    requires size { length (drafted draft.old) ≡ file_len }
+    requires name { length collection.now ≤ 60 }
+    requires behind { first_at ≤ at }
+    requires payload { length payload.now < 2 ^ 63 }
+    requires room { request (length payload.now) ≤ file_len - at }
+    requires last { first_at ≤ last }
+    requires apart { last + 16 ≤ at }
+    requires inside { at ≤ file_len }
+    ensures stands { (payloads : List (List ℕ)) → Stands collection.now payloads (drafted draft.old) at (Some last)
+        → IfOk result (λ chain. Stands collection.now (payloads ++ payload.now ∷ []) (drafted draft.new) chain.end chain.last) }
+    ensures keeps { Keeps draft.old draft.new }
+{
+    put_next(draft, last, at)?;
+    put_block(draft, collection, at, last as i32, payload)
+}
+
+/// Inserts a payload that has room behind the records of the collection.
+pub fn insert(
+    draft: &mut Draft,
+    collection: &[u8],
+    chain: Chain,
+    payload: &[u8],
+) -> Result<Chain, NoMemory>
+    requires size { length (drafted draft.old) ≡ file_len }
+    requires name { length collection.now ≤ 60 }
+    requires payload { length payload.now < 2 ^ 63 }
+    requires room { request (length payload.now) ≤ file_len - chain.end }
+    requires stands { (payloads : List (List ℕ)) × Stands collection.now payloads (drafted draft.old) chain.end chain.last }
+    ensures stands { (payloads : List (List ℕ)) → Stands collection.now payloads (drafted draft.old) chain.end chain.last
+        → IfOk result (λ next. Stands collection.now (payloads ++ payload.now ∷ []) (drafted draft.new) next.end next.last) }
+    ensures keeps { Keeps draft.old draft.new }
+{
+    match chain.last {
+        None => insert_first(draft, collection, payload),
+        Some(last) => insert_next(draft, collection, last, chain.end, payload),
     }
-    put_rest(file, at);
-    prev
-}
-
-// Writes the header, the extent and the records.
-fn put_all(file: &mut [u8], collection: &[u8], payloads: &[&[u8]])
-    requires size { length file.old ≡ file_len }
-    requires name { length collection.now ≤ 60 }
-    requires some { 0 < length payloads.now }
-    requires fit { Fit first_at (map (λ payload. payload.now) payloads.now) }
-    ensures { Holds file.new collection.now (map (λ payload. payload.now) payloads.now) }
-{
-    put_header(file, FILE_LEN);
-    let last = put_records(file, payloads);
-    put_extent(file, collection, last as usize);
-}
-
-// A file of zeros.
-fn blank(alloc: Global, len: usize) -> Result<Vec<u8>, NoMemory>
-    ensures { IfOk result (λ file. length file.items ≡ len) }
-{
-    Ok(vec![in alloc; 0; len]?)
-}
-
-// Writes into a file of zeros what holds these payloads.
-fn put_file(file: &mut [u8], collection: &[u8], payloads: &[&[u8]])
-    requires size { length file.old ≡ file_len }
-    requires name { length collection.now ≤ 60 }
-    requires fit { Fit first_at (map (λ payload. payload.now) payloads.now) }
-    ensures { Holds file.new collection.now (map (λ payload. payload.now) payloads.now) }
-{
-    if payloads.is_empty() {
-        put_header(file, EXTENT_AT);
-    } else {
-        put_all(file, collection, payloads);
-    }
-}
-
-// The file that holds these payloads.
-fn filled(alloc: Global, collection: &[u8], payloads: &[&[u8]]) -> Result<Vec<u8>, NoMemory>
-    requires name { length collection.now ≤ 60 }
-    requires fit { Fit first_at (map (λ payload. payload.now) payloads.now) }
-    ensures { IfOk result (λ file. IsFile collection.now (map (λ payload. payload.now) payloads.now) file.items) }
-{
-    let mut file = blank(alloc, FILE_LEN)?;
-    put_file(&mut file, collection, payloads);
-    Ok(file)
-}
-
-/// The file that holds these payloads of the collection, as its live records.
-pub fn file_of(alloc: Global, collection: &[u8], payloads: &[&[u8]]) -> Result<Vec<u8>, NoMemory>
-    requires name { length collection.now ≤ 60 }
-    requires fit { Fit first_at (map (λ payload. payload.now) payloads.now) }
-    ensures holds { IfOk result (λ file. IsFile collection.now (map (λ payload. payload.now) payloads.now) file.items) }
-    ensures live { IfOk result (λ file. HasLive file.items (map (λ payload. payload.now) payloads.now)) }
-{
-    filled(alloc, collection, payloads)
 }

@@ -12,8 +12,8 @@ use std::alloc::Global;
 /// The longest name of a collection.
 pub const LONGEST_NAME: usize = 60;
 
-// What follows this front of the text.
-fn behind<'a>(text: &'a [u8], front: &[u8]) -> Option<&'a [u8]>
+/// What follows this front of the text.
+pub fn behind<'a>(text: &'a [u8], front: &[u8]) -> Option<&'a [u8]>
     ensures some { IfSome result (λ rest. text.now ≡ front.now ++ rest.now) }
     ensures none { IfNone result ((rest : List ℕ) → text.now ≡ front.now ++ rest → ⊥) }
 {
@@ -30,7 +30,8 @@ fn is_name_byte(byte: u8) -> bool
         || byte == b'.'
 }
 
-fn is_collection(name: &[u8]) -> bool
+/// Whether it is a collection's name.
+pub fn is_collection(name: &[u8]) -> bool
     ensures { IsTrue result ↔ IsCollection name.now }
 {
     !name.is_empty()

@@ -20,7 +20,7 @@ pub enum Status {
     SinkFault,
     /// Memory ran out.
     NoMemory,
-    /// A file is there.
+    /// A file is there that shouldn't be, or something is wrong in the data file.
     FilesRefused,
 }
 

@@ -2,10 +2,13 @@
 ghost use Rattle.std.specs.Prelude.{◌≡◌, ◌++◌, IfOk, OnOk, string_bytes};
 ghost use Rattle.std.specs.Fmt.{decimal};
 ghost use Rattle.mm_main.specs.Answers.{reply_lines, reply_text};
-ghost use Rattle.mm_main.specs.Texts.{refusal_text, present_text};
+ghost use Rattle.mm_main.specs.Contents.{doc_line, doc_lines};
+ghost use Rattle.mm_main.specs.Texts.{refusal_text, present_text, word_of, finding_text};
 
 use crate::answers::Reply;
+use crate::finding::{Finding, What};
 use mm_base::NoMemory;
+use mm_bson::Doc;
 use std::alloc::{AllocError, Global};
 use std::fmt::Write;
 
@@ -55,4 +58,49 @@ pub fn presence(alloc: Global, name: &str) -> Result<String, NoMemory>
     ensures { IfOk result (λ text. string_bytes text ≡ present_text name.now) }
 {
     Ok(format!(in alloc; "bad file {name} 0 present\n")?)
+}
+
+// The word of a part of the format.
+fn word_of(what: What) -> &'static str
+    ensures { result.now ≡ word_of what }
+{
+    match what {
+        What::File => "file",
+        What::Extent => "extent",
+        What::Chain => "chain",
+        What::Tiling => "tiling",
+        What::Document => "document",
+    }
+}
+
+/// What is said of what is first wrong in the data file.
+pub fn finding(alloc: Global, found: &Finding) -> Result<String, NoMemory>
+    ensures { IfOk result (λ text. string_bytes text ≡ finding_text found.now.at found.now.what) }
+{
+    let at = found.at;
+    let word = word_of(found.what);
+    Ok(format!(in alloc; "bad file test.0 {at} {word}\n")?)
+}
+
+// Appends the line of a document of the collection with this full name.
+fn push_doc(alloc: Global, out: &mut Vec<u8>, name: &[u8], doc: &Doc) -> Result<(), NoMemory>
+    ensures { OnOk result (out.new.items ≡ out.old.items ++ doc_line name.now doc.now) }
+{
+    let digits = hex::encode(alloc, doc.bytes())?;
+    out.extend_from_slice(name)?;
+    out.extend_from_slice(b" hex:")?;
+    out.extend_from_slice(digits.as_bytes())?;
+    out.extend_from_slice(b"\n")?;
+    Ok(())
+}
+
+/// A line for each document of the collection with this full name.
+pub fn docs_text(alloc: Global, name: &[u8], docs: &[Doc]) -> Result<Vec<u8>, NoMemory>
+    ensures { IfOk result (λ text. text.items ≡ doc_lines name.now docs.now) }
+{
+    let mut out = Vec::new(alloc);
+    for doc in docs {
+        push_doc(alloc, &mut out, name, doc)?;
+    }
+    Ok(out)
 }

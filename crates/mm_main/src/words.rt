@@ -1,13 +1,13 @@
 // The words of the program.
 ghost use Rattle.std.specs.Prelude.{◌↔◌, map, IsTrue, string_bytes};
-ghost use Rattle.mm_main.specs.Words.{IsPlay};
+ghost use Rattle.mm_main.specs.Words.{HasCommand};
 
-/// Whether the words are `play` and a folder.
-pub fn is_play(words: &[String]) -> bool
-    ensures { IsTrue result ↔ IsPlay (map string_bytes words.now) }
+/// Whether the words are this command's name and a folder.
+pub fn is_command(words: &[String], name: &str) -> bool
+    ensures { IsTrue result ↔ HasCommand name.now (map string_bytes words.now) }
 {
     match words {
-        [command, _folder] => command.as_str() == "play",
+        [command, _folder] => command.as_str() == name,
         _ => false,
     }
 }

@@ -1,21 +1,31 @@
-use Rattle.std.proofs.Common.{◌+◌, refl, rules, arith, ◌∙◌}
+use Rattle.std.proofs.Common.{negsuc, ◌+◌, ◌∙◌, refl, rules, arith, ap}
 use Rattle.std.specs.Int.{w32}
 use Rattle.std.proofs.lemmas.Int.{to_z_pos, to_z-of_z}
+use Rattle.std.proofs.lemmas.Result.{on_ok_weaker}
+use Rattle.mm_base.specs.Bytes.{part, overwritten}
+use Rattle.mm_base.specs.Tables.{HasAll}
+use Rattle.mm_base.proofs.Parts.{part_before}
 use Rattle.mm_frames.specs.RecHeader.{rec_header_bytes, rec_header_table}
 use Rattle.mm_main.specs.DataFile.{linked}
+use Rattle.mm_main.specs.Drafted.{drafted}
 use Rattle.mm_main.proofs.FrameSteps.{has_put, header_stays, payload_stands, before_payload}
 use Rattle.mm_main.proofs.file.put_record.Goals as goal
 
 pub returns-clause-written : goal.returns-clause-written
 unfolding rec_header_bytes
 returns-clause-written c =
-    let spelled = rw (to_z_pos w32 c.args.len (omega arith)) at c.put_rec_header.ensures.spelled in
-    let has = has_put 16 c.args.at _ c.args.file.now _ refl (search rules) (omega arith) spelled in
-    record {
-      header = header_stays 16 c.args.at (rec_header_table (linked c.args.len c.args.prev c.args.next)) c.args.payload.now c.put_rec_header.new.bytes _ (has.0, (has.1.0, (has.1.1.0 ∙ to_z-of_z w32 c.args.next (search rules), (has.1.1.1.0 ∙ to_z-of_z w32 c.args.prev (search rules), tt)))) (omega arith) c.put_bytes.ensures;
-      holds = payload_stands (c.args.at + 16) c.args.payload.now c.put_rec_header.new.bytes _ (omega arith) c.put_bytes.ensures;
-    }
+    let mid = drafted c.put.new.draft in
+    let spelled = rw (to_z_pos w32 c.args.len (omega arith)) at c.rec_header_frame.ensures.spelled in
+    let has = has_put 16 c.args.at _ (drafted c.args.draft.now) mid refl (search rules) (omega arith) (c.in_ok-put.ensures.ok ∙ ap (λ bytes. overwritten c.args.at bytes (drafted c.args.draft.now)) spelled) in
+    let header : HasAll (part c.args.at 16 mid) (rec_header_table (linked c.args.len c.args.prev (negsuc 0))) = (has.0, (has.1.0, (has.1.1.0, (has.1.1.1.0 ∙ to_z-of_z w32 c.args.prev (search rules), tt)))) in
+    on_ok_weaker c.put_payload.result (λ is. record {
+      header = header_stays 16 c.args.at (rec_header_table (linked c.args.len c.args.prev (negsuc 0))) c.args.payload.now mid _ header (omega (arith, c.in_ok-put.ensures.keeps.size)) is;
+      holds = payload_stands (c.args.at + 16) c.args.payload.now mid _ (omega (arith, c.in_ok-put.ensures.keeps.size)) is;
+    }) c.put_payload.ensures.ok
 
 pub returns-clause-before : goal.returns-clause-before
-returns-clause-before c = λ q m before.
-    before_payload (c.args.at + 16) q m c.args.payload.now c.put_rec_header.new.bytes _ (omega arith) (omega arith) c.put_bytes.ensures ∙ c.put_rec_header.ensures.elsewhere.before q m before
+returns-clause-before c =
+    let mid = drafted c.put.new.draft in
+    on_ok_weaker c.put_payload.result (λ is. λ q m before.
+    before_payload (c.args.at + 16) q m c.args.payload.now mid _ (omega (arith, before)) (omega (arith, c.in_ok-put.ensures.keeps.size)) is
+    ∙ ap (part q m) c.in_ok-put.ensures.ok ∙ part_before q m c.args.at c.rec_header_frame.result (drafted c.args.draft.now) before (omega arith)) c.put_payload.ensures.ok

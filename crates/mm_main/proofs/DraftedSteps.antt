@@ -1,0 +1,75 @@
+-- Bytes of the data file that are written in a draft.
+use Rattle.std.proofs.Common.{◌≡◌, ℕ, pos, negsuc, ◌+◌, ◌-◌, ◌≤◌, true, false, List, [], ◌∷◌, ◌++◌, length, take, drop, replicate, refl, sym, ap, ◌∙◌, arith, subst, append-nil, append_assoc, Result}
+use Rattle.std.specs.Prelude.{OnOk}
+use Rattle.std.proofs.lemmas.List.{drop-drop, take-append-drop}
+use Rattle.std.proofs.lemmas.Result.{on_ok_weaker}
+use Rattle.mm_base.specs.Bytes.{part, overwritten}
+use Rattle.mm_base.specs.Tables.{Cell, HasAll, AllInRange, tiles, joined}
+use Rattle.mm_base.proofs.Parts.{length-overwritten, part_before, part_behind, part_front}
+use Rattle.mm_ranges.specs.Bytes.{read_from, overwritten as laid_on}
+use Rattle.mm_ranges.specs.Overlay.{laid}
+use Rattle.mm_ranges.specs.Places.{Range}
+use Rattle.mm_ranges.proofs.Overlaying.{bytes_at-laid}
+use Rattle.mm_views.specs.State.{Drafting}
+use Rattle.mm_frames.specs.RecHeader.{rec_header_of, rec_header_table}
+use Rattle.mm_frames.specs.declared.rec_header.RecHeader.{RecHeader}
+use Rattle.mm_frames.proofs.Again.{rec_header_is}
+use Rattle.mm_main.specs.DataFile.{linked}
+use Rattle.mm_main.specs.Drafted.{drafted, Keeps, LeadsOn}
+use Rattle.mm_main.specs.Written.{SameBefore, SameBehind}
+use Rattle.mm_main.proofs.FrameSteps.{has_put}
+
+none_of : (n : ℕ) → n ≡ 0 → replicate {A = ℕ} n 0 ≡ []
+none_of n is = ap (λ (k : ℕ). replicate {A = ℕ} k 0) is
+
+-- inside a file, bytes are laid over it as they are written
+same_laid : (at : ℕ) (bytes old : List ℕ) → at ≤ length old → laid_on at bytes old ≡ overwritten at bytes old
+unfolding overwritten
+same_laid at bytes old inside =
+    let front : take at old ++ replicate {A = ℕ} (at - length old) 0 ≡ take at old = ap (λ (xs : List ℕ). take at old ++ xs) (none_of (at - length old) (omega (arith, inside))) ∙ append-nil (take at old) in
+    append_assoc (take at old ++ replicate {A = ℕ} (at - length old) 0) bytes (drop (at + length bytes) old) ∙ ap (λ (xs : List ℕ). xs ++ (bytes ++ drop (at + length bytes) old)) front ∙ ap (λ (xs : List ℕ). take at old ++ (bytes ++ xs)) (sym (drop-drop (length bytes) at old))
+
+pub put_bytes : (old mid new : Drafting) (declared : List Range) (at : ℕ) (bytes : List ℕ) → at ≤ length (drafted old) → mid ≡ record old { declared = declared; is_reserved = false } → new ≡ record mid { image = laid 0 at bytes mid.image; is_reserved = false }
+    → drafted new ≡ overwritten at bytes (drafted old)
+put_bytes old mid new declared at bytes inside before after =
+    ap (λ (d : Drafting). drafted d) after ∙ bytes_at-laid 0 at bytes mid.image ∙ ap (λ (d : Drafting). laid_on at bytes (drafted d)) before ∙ same_laid at bytes (drafted old) inside
+
+-- the draft keeps all else
+pub put_keeps : (old mid new : Drafting) (declared : List Range) (at : ℕ) (bytes : List ℕ) → at + length bytes ≤ length (drafted old) → mid ≡ record old { declared = declared; is_reserved = false } → new ≡ record mid { image = laid 0 at bytes mid.image; is_reserved = false } → Keeps old new
+put_keeps old mid new declared at bytes inside before after = record {
+  views = ap (λ (d : Drafting). d.views) after ∙ ap (λ (d : Drafting). d.views) before;
+  made = ap (λ (d : Drafting). d.made) after ∙ ap (λ (d : Drafting). d.made) before;
+  size = ap length (put_bytes old mid new declared at bytes (omega (arith, inside)) before after) ∙ length-overwritten at bytes (drafted old) inside;
+}
+
+-- ---- of a frame that was put, where it was put
+
+pub frame_put : (T E : Type 0) (r : Result T E) (n at : ℕ) (cells : List Cell) (frame old new : List ℕ) → tiles 0 cells n ≡ true → AllInRange cells → at + n ≤ length old → frame ≡ joined cells → OnOk r (new ≡ overwritten at frame old) → OnOk r (HasAll (part at n new) cells)
+frame_put T E r n at cells frame old new tiled fits inside spelled put =
+    on_ok_weaker r (λ is. has_put n at cells old new tiled fits inside (is ∙ ap (λ (bytes : List ℕ). overwritten at bytes old) spelled)) put
+
+pub put_before : (T E : Type 0) (r : Result T E) (at : ℕ) (frame old new : List ℕ) → at ≤ length old → OnOk r (new ≡ overwritten at frame old) → OnOk r (SameBefore at old new)
+put_before T E r at frame old new inside put = on_ok_weaker r (λ is. λ q m before. ap (part q m) is ∙ part_before q m at frame old before inside) put
+
+pub put_behind : (T E : Type 0) (r : Result T E) (at end : ℕ) (frame old new : List ℕ) → at ≤ length old → at + length frame ≤ end → OnOk r (new ≡ overwritten at frame old) → OnOk r (SameBehind end old new)
+put_behind T E r at end frame old new inside short put = on_ok_weaker r (λ is. λ q m behind. ap (part q m) is ∙ part_behind q m at frame old (omega (arith, short, behind)) inside) put
+
+nothing : (payload : List ℕ) → length payload ≡ 0 → payload ≡ []
+nothing [] none = refl
+nothing (x ∷ payload) none = absurd (omega (arith, none))
+
+-- no bytes change nothing
+pub put_none : (at : ℕ) (payload file : List ℕ) → length payload ≡ 0 → file ≡ overwritten at payload file
+unfolding overwritten
+put_none at payload file none = sym (ap (λ (xs : List ℕ). take at file ++ (xs ++ drop (length xs) (drop at file))) (nothing payload none) ∙ take-append-drop at file)
+
+-- ---- a record's header that is read, and written so that it leads on
+
+pub read_front : (at n : ℕ) (file : List ℕ) → part 0 n (read_from at n file) ≡ part at n file
+unfolding part
+read_front at n file = part_front n at n file (omega arith)
+
+pub leads_on : (last next : ℕ) (r h : RecHeader) (old new : List ℕ) → r ≡ rec_header_of (part last 16 old) → h ≡ record r { next_ofs = pos next } → HasAll (part last 16 new) (rec_header_table h) → LeadsOn last next old new
+leads_on last next r h old new read is has = λ len prev before.
+    let same : r ≡ linked len prev (negsuc 0) = read ∙ rec_header_is (linked len prev (negsuc 0)) (part last 16 old) before in
+    subst (λ (x : RecHeader). HasAll (part last 16 new) (rec_header_table x)) (is ∙ ap (λ (x : RecHeader). record x { next_ofs = pos next }) same) has

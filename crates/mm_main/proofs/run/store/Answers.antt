@@ -1,6 +1,0 @@
-use Rattle.std.proofs.Common.{refl}
-use Rattle.mm_main.proofs.RunSteps.{began_none}
-use Rattle.mm_main.proofs.run.store.Goals as goal
-
-pub returns-in-Err-clause-began : goal.returns-in-Err-clause-began
-returns-in-Err-clause-began g c = began_none _ _ refl
