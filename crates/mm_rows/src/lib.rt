@@ -6,6 +6,8 @@
 #![tactic(auto)]
 
 #[cfg(test)]
+mod dump;
+#[cfg(test)]
 mod play;
 #[cfg(test)]
 mod stage;

@@ -226,11 +226,11 @@ fn the_last_bytes_of_the_extent(rt: HostRuntime) -> Result<(), Fail> {
     let alloc = rt.alloc();
     let mut script = Vec::new(alloc);
     for block in ALL_BUT_80 {
-        push_insert(&mut script, block - 16)?;
+        push_insert(alloc, &mut script, block - 16)?;
     }
-    push_insert(&mut script, 128 - 16)?;
-    push_insert(&mut script, 64 - 16)?;
-    push_insert(&mut script, 14)?;
+    push_insert(alloc, &mut script, 128 - 16)?;
+    push_insert(alloc, &mut script, 64 - 16)?;
+    push_insert(alloc, &mut script, 14)?;
     let mut disk = MemDisk::new(alloc);
     let mut sink = MemSink::new(alloc, Vec::new(alloc));
     let status = play(alloc, &script, &mut sink, &mut disk)?;
@@ -255,9 +255,9 @@ fn a_rest_of_the_extent_is_a_deleted_block(rt: HostRuntime) -> Result<(), Fail> 
     let alloc = rt.alloc();
     let mut script = Vec::new(alloc);
     for block in ALL_BUT_80 {
-        push_insert(&mut script, block - 16)?;
+        push_insert(alloc, &mut script, block - 16)?;
     }
-    push_insert(&mut script, 14)?;
+    push_insert(alloc, &mut script, 14)?;
     let mut disk = MemDisk::new(alloc);
     let mut sink = MemSink::new(alloc, Vec::new(alloc));
     let status = play(alloc, &script, &mut sink, &mut disk)?;

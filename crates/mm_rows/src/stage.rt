@@ -33,24 +33,26 @@ pub fn play(
     Ok(tool_main(alloc, &words, &mut source, sink, disk))
 }
 
-/// Appends a line that inserts a document of so many bytes, 14 at least: one text of `x`.
-pub fn push_insert(out: &mut Vec<u8>, len: u32) -> Result<(), AllocError> {
-    let text = len.saturating_sub(13);
-    out.extend_from_slice(b"1 test insert c hex:")?;
-    push_hex(out, &len.to_le_bytes())?;
-    push_hex(out, &[2, b's', 0])?;
-    push_hex(out, &text.saturating_add(1).to_le_bytes())?;
-    for _ in 0..text {
-        push_hex(out, b"x")?;
-    }
-    push_hex(out, &[0, 0])?;
-    out.extend_from_slice(b"\n")
+/// Dumps a disk.
+pub fn dump(alloc: Global, sink: &mut MemSink, disk: &mut MemDisk) -> Result<Status, AllocError> {
+    let words = words_of(alloc, &["dump", "F"])?;
+    let mut source = source_of(alloc, b"")?;
+    Ok(tool_main(alloc, &words, &mut source, sink, disk))
 }
 
-fn push_hex(out: &mut Vec<u8>, bytes: &[u8]) -> Result<(), AllocError> {
-    const DIGITS: [u8; 16] = *b"0123456789abcdef";
-    for byte in bytes {
-        out.extend_from_slice(&[DIGITS[(*byte >> 4) as usize], DIGITS[(*byte & 15) as usize]])?;
+/// Appends a line that inserts a document of so many bytes, 14 at least: one text of `x`.
+pub fn push_insert(alloc: Global, out: &mut Vec<u8>, len: u32) -> Result<(), AllocError> {
+    let text = len.saturating_sub(13);
+    let mut doc = Vec::new(alloc);
+    doc.extend_from_slice(&len.to_le_bytes())?;
+    doc.extend_from_slice(&[2, b's', 0])?;
+    doc.extend_from_slice(&text.saturating_add(1).to_le_bytes())?;
+    for _ in 0..text {
+        doc.push(b'x')?;
     }
-    Ok(())
+    doc.extend_from_slice(&[0, 0])?;
+    let digits = hex::encode(alloc, doc.as_slice())?;
+    out.extend_from_slice(b"1 test insert c hex:")?;
+    out.extend_from_slice(digits.as_bytes())?;
+    out.extend_from_slice(b"\n")
 }
