@@ -1,0 +1,9 @@
+pub mod Steps
+pub mod Listed
+pub mod Fields
+pub mod Drafts
+pub mod Onward
+pub mod Walk
+pub mod Kept
+pub mod Whole
+pub mod Lengths

@@ -1,0 +1,23 @@
+use Rattle.std.proofs.Common.{◌≡◌, ◌+◌, ◌*◌, ◌≤◌, length}
+use Rattle.mm_bson.specs.Tree.{depth, tree_depth}
+use Rattle.mm_bson.specs.Spelling.{elements_spelling}
+use Rattle.mm_update.specs.Drafted.{drafted, node_tree}
+use Rattle.mm_update.proofs.measure.+len.Given as goal
+
+abbrev pub decreases-len : goal.decreases-len
+decreases-len l = 3 * depth l.draft.now + 2
+
+abbrev pub decreases-entry_len : goal.decreases-entry_len
+decreases-entry_len l = 3 * tree_depth (node_tree l.entry.now.node) + 1
+
+abbrev pub decreases-node_len : goal.decreases-node_len
+decreases-node_len l = 3 * tree_depth (node_tree l.node.now)
+
+abbrev pub invariant-len-entries : goal.invariant-len-entries
+invariant-len-entries l = record {
+  counted : l.len + length (elements_spelling (drafted l.rest)) ≡ 5 + length (elements_spelling l.draft);
+  shallow : depth (drafted l.rest) ≤ depth l.draft;
+}
+
+abbrev pub decreases-len-entries : goal.decreases-len-entries
+decreases-len-entries l = length l.rest

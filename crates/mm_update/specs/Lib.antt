@@ -1,0 +1,11 @@
+pub mod Paths
+pub mod Edit
+pub mod EditCode
+pub mod Form
+pub mod Edited
+pub mod Changed
+pub mod Drafted
+pub mod DraftFalls
+pub mod Opening
+pub mod PlanView
+pub mod Laws

@@ -1,0 +1,120 @@
+//! How long and how deep a draft is.
+
+ghost use Rattle.std.specs.Prelude.{◌≡◌, ◌↔◌, ◌<◌, IsTrue, IfSome, length};
+ghost use Rattle.mm_bson.specs.Tree.{tree_depth, depth, values_depth};
+ghost use Rattle.mm_bson.specs.View.{values_of};
+ghost use Rattle.mm_bson.specs.Spelling.{spelling, array_spelling, value_spelling, element_len};
+ghost use Rattle.std.specs.Fmt.{decimal};
+ghost use Rattle.mm_update.specs.Drafted.{node_tree};
+
+use crate::draft::{Draft, Entry, Node};
+use itoa::Buffer;
+use mm_bson::Value;
+
+/// The bytes of an empty document or array: its length and the final 00.
+const EMPTY_LEN: usize = 5;
+
+/// The bytes of an element without its name and value: the type and a 00.
+const ELEMENT_LEN: usize = 2;
+
+/// How many bytes the name of an array's value has.
+fn name_len(place: usize) -> usize
+    ensures { result ≡ length (decimal place) }
+{
+    let mut digits = Buffer::new();
+    digits.format(place).as_bytes().len()
+}
+
+/// How many bytes an array has, or none where that is past usize.
+fn array_len(values: &[Value]) -> Option<usize>
+    ensures { IfSome result (λ n. n ≡ length (array_spelling (values_of values.now))) }
+{
+    let mut len = EMPTY_LEN;
+    let mut place = 0;
+    let mut rest = values;
+    while let [first, others @ ..] = rest {
+        len = len
+            .checked_add(ELEMENT_LEN)?
+            .checked_add(name_len(place))?
+            .checked_add(first.spelled_len())?;
+        place += 1;
+        rest = others;
+    }
+    Some(len)
+}
+
+#[cycle(len)]
+fn node_len(node: &Node) -> Option<usize>
+    ensures { IfSome result (λ n. n ≡ length (value_spelling (node_tree node.now))) }
+{
+    match node {
+        Node::Value(value) => Some(value.spelled_len()),
+        Node::Document(draft) => len(draft),
+        Node::Array(values) => array_len(values.as_slice()),
+    }
+}
+
+#[cycle(len)]
+fn entry_len(entry: &Entry) -> Option<usize>
+    ensures { IfSome result (λ n. n ≡ element_len entry.now.name (node_tree entry.now.node)) }
+{
+    let len = node_len(&entry.node)?;
+    len.checked_add(ELEMENT_LEN)?
+        .checked_add(entry.name.as_bytes().len())
+}
+
+/// How many bytes a draft has, or none where that is past usize.
+#[cycle(len)]
+pub(crate) fn len(draft: &Draft) -> Option<usize>
+    ensures { IfSome result (λ n. n ≡ length (spelling draft.now)) }
+{
+    let mut len = EMPTY_LEN;
+    let mut rest = draft.entries();
+    'entries: while let [first, others @ ..] = rest {
+        len = len.checked_add(entry_len(first)?)?;
+        rest = others;
+    }
+    Some(len)
+}
+
+fn values_are_shallow(values: &[Value], limit: usize) -> bool
+    requires { 0 < limit }
+    ensures { IsTrue result ↔ (values_depth (values_of values.now) < limit) }
+{
+    let mut rest = values;
+    while let [first, others @ ..] = rest {
+        if first.levels() >= limit {
+            return false;
+        }
+        rest = others;
+    }
+    true
+}
+
+#[cycle(shallow)]
+fn node_is_shallow(node: &Node, limit: usize) -> bool
+    requires { 0 < limit }
+    ensures { IsTrue result ↔ (tree_depth (node_tree node.now) < limit) }
+{
+    match node {
+        Node::Value(value) => value.levels() < limit,
+        Node::Document(draft) => limit > 1 && is_shallow(draft, limit - 1),
+        Node::Array(values) => limit > 1 && values_are_shallow(values.as_slice(), limit - 1),
+    }
+}
+
+/// Whether fewer levels than the limit lie inside a draft.
+#[cycle(shallow)]
+pub(crate) fn is_shallow(draft: &Draft, limit: usize) -> bool
+    requires { 0 < limit }
+    ensures { IsTrue result ↔ (depth draft.now < limit) }
+{
+    let mut rest = draft.entries();
+    'entries: while let [first, others @ ..] = rest {
+        if !node_is_shallow(&first.node, limit) {
+            return false;
+        }
+        rest = others;
+    }
+    true
+}
