@@ -1,5 +1,5 @@
 -- The map's entries, taken apart where a place belongs, and what its calls make of them.
-use Rattle.std.proofs.Common.{◌≡◌, ℕ, true, false, List, [], ◌∷◌, ◌++◌, Some, None, refl, sym, ◌∙◌, ap, subst, arith, inl, inr}
+use Rattle.std.proofs.Common.{◌≡◌, ◌≤◌, ℕ, true, false, List, [], ◌∷◌, ◌++◌, Some, None, refl, sym, ◌∙◌, ap, subst, arith, inl, inr}
 use Rattle.std.specs.Prelude.{◌&&◌, ◌||◌, nat_lt, nat_le, ◌==◌}
 use Rattle.std.specs.declared.cmp.Ordering.{Ordering}
 use Rattle.std.specs.declared.cmp.Ordering.TheVariants.{Less, Equal, Greater}
@@ -58,6 +58,14 @@ all_end file at (x ∷ xs) h = elim (cases_Bool (ends_before x file at)) [
   where
     none_some : (x : Entry) → Some x ≡ None → ⊥
     none_some x h = cc
+
+-- what ends before a place ends before a later one
+pub all_end_sooner : (es : List Entry) (file at later : ℕ) → AllEnd es file at → at ≤ later → AllEnd es file later
+all_end_sooner [] file at later past le = tt
+all_end_sooner (e ∷ es) file at later past le = (sooner e past.0, all_end_sooner es file at later past.1 le)
+  where
+    sooner : (e : Entry) → ends_before e file at ≡ true → ends_before e file later ≡ true
+    sooner e h = grind (arith, nat_tests, le)
 
 greater : (file at : ℕ) (x : Entry) (k : ℕ × ℕ) → ends_before x file at ≡ true → (nat_lt k.0 file || (k.0 == file && nat_lt k.1 at)) ≡ false → key_cmp k x.0 ≡ Greater
 greater file at x k a b = grind (arith, nat_tests)

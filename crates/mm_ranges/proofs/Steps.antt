@@ -6,15 +6,15 @@ use Rattle.std.specs.Map.{lookup, remove_entry}
 use Rattle.std.proofs.lemmas.Bool.{and_parts, and_from, le-leb, cond-false}
 use Rattle.std.proofs.lemmas.Bool.Decides.{nat_tests}
 use Rattle.std.proofs.lemmas.List.Sums.{sum_by-append, sum_by-cons}
-use Rattle.mm_ranges.specs.Places.{Range, is_before, is_span, is_first, is_spaced, joined, inserted}
+use Rattle.mm_ranges.specs.Places.{Range, is_before, is_span, is_first, is_spaced, is_within, joined, inserted}
 use Rattle.mm_ranges.specs.Room.{is_at, is_touched, shown}
-use Rattle.mm_ranges.specs.Spans.{Entry, span_of, spans_of, ends_before, first_at, are_forward, count_of, IsKept, Counts, Joins, places_in, ranges_in, entry_of, range_of}
+use Rattle.mm_ranges.specs.Spans.{Entry, span_of, spans_of, first_at, are_forward, count_of, IsKept, Counts, Joins, IsAlone, places_in, ranges_in, entry_of, range_of}
 use Rattle.mm_ranges.specs.declared.spans.Span.{Span}
 use Rattle.mm_ranges.specs.declared.spans.Tally.{Tally}
 use Rattle.mm_ranges.proofs.Order.{spaced_parts}
 use Rattle.mm_ranges.proofs.Inserting.{is_spaced-inserted}
 use Rattle.mm_ranges.proofs.Splits.{Reaches, touched-append, spaced_after, spaced_without, inserted-joined, inserted-stretched, inserted-alone}
-use Rattle.mm_ranges.proofs.Entries.{key_cmp, AllEnd, IsPast, found_at, all_end, entry_new, spans_of-append, are_forward-append, forward_both, spans_before}
+use Rattle.mm_ranges.proofs.Entries.{key_cmp, AllEnd, IsPast, found_at, all_end, all_end_sooner, entry_new, spans_of-append, are_forward-append, forward_both, spans_before}
 use Rattle.mm_ranges.proofs.Kept.{Cut, cut_at, touched_reaches, touched_by_first}
 
 end_of : (start last : ℕ) → start ≤ last → start + (last - start) ≡ last
@@ -202,6 +202,58 @@ counts_moved es fs tally less more w s out counts a b c d = record {
     moved : (t l m old new n k : ℕ) → l + n ≡ t → m ≡ l + k → t ≡ old → new + n ≡ old + k → m ≡ new
     moved t l m old new n k a b c d = omega arith
 
+-- ---- a span that touches no other is put in
+pub record Entered (es : List Entry) (w : Span) (fs : List Entry) : Type 0 where
+  pub kept : IsKept fs
+  pub places_more : places_in fs ≡ places_in es + (w.end - w.start)
+  pub ranges_more : ranges_in fs ≡ ranges_in es + count_of (range_of w)
+  pub spans : spans_of fs ≡ inserted (range_of w) (spans_of es)
+
+pub entered : (es : List Entry) (w : Span) → is_span (range_of w) ≡ true → w.start ≤ w.end → IsKept es → IsAlone w es → Entered es w (insert_entry key_cmp es (w.file, w.end) w.start)
+entered es w fits order kept alone = by_cases (first_at w.file w.start es) refl
+  where
+    -- it stands between those that end before it and the others
+    at_gap : (before after : List Entry) → es ≡ before ++ after → AllEnd before w.file w.start → IsPast w.file w.end after → is_first (range_of w) (spans_of after) ≡ true → Entered es w (insert_entry key_cmp es (w.file, w.end) w.start)
+    at_gap before after whole past later first =
+        let is : insert_entry key_cmp es (w.file, w.end) w.start ≡ before ++ entry_of w ∷ after =
+        ap (λ (xs : List Entry). insert_entry key_cmp xs (w.file, w.end) w.start) whole ∙ entry_new w.file w.end before after w.start (all_end_sooner before w.file w.start w.end past order) later in
+        let both = are_forward-append before after (ap are_forward (sym whole) ∙ kept.forward) in
+        let split : spans_of es ≡ spans_of before ++ spans_of after = ap spans_of whole ∙ spans_of-append before after in
+        let sums : spans_of (insert_entry key_cmp es (w.file, w.end) w.start) ≡ spans_of before ++ range_of w ∷ spans_of after = ap spans_of is ∙ spans_of-append before (entry_of w ∷ after) in
+        let spans : spans_of (insert_entry key_cmp es (w.file, w.end) w.start) ≡ inserted (range_of w) (spans_of es) =
+        sums
+        ∙ sym (inserted-alone (spans_of before) (spans_of after) (range_of w) (spans_before before (range_of w) both.0 past) first)
+        ∙ ap (inserted (range_of w)) (sym split) in
+        record {
+          kept = record {
+            forward = ap are_forward is ∙ forward_both before (entry_of w ∷ after) both.0 (and_from (nat_le w.start w.end) (are_forward after) (le-leb w.start w.end order) both.1);
+            spaced = ap is_spaced spans ∙ is_spaced-inserted (range_of w) (spans_of es) fits kept.spaced;
+          };
+          places_more = sum_more (λ (q : Range). q.2) (spans_of before) (spans_of after) es _ split sums;
+          ranges_more = sum_more count_of (spans_of before) (spans_of after) es _ split sums;
+          spans = spans;
+        }
+      where
+        sum_more : (f : Range → ℕ) (ps qs : List Range) (es fs : List Entry) → spans_of es ≡ ps ++ qs → spans_of fs ≡ ps ++ range_of w ∷ qs → sum_by f (spans_of fs) ≡ sum_by f (spans_of es) + f (range_of w)
+        sum_more f ps qs es fs e e' =
+            let old = ap (sum_by f) e in
+            let new = ap (sum_by f) e' ∙ sum_cut f ps qs (range_of w) in
+            omega arith
+
+    by_cases : (o : Option Entry) → first_at w.file w.start es ≡ o → Entered es w (insert_entry key_cmp es (w.file, w.end) w.start)
+    by_cases None is = at_gap es [] (sym (append_nil es)) (all_end w.file w.start es is) tt refl
+      where
+        append_nil : (xs : List Entry) → xs ++ [] ≡ xs
+        append_nil [] = refl
+        append_nil (x ∷ xs) = ap (λ (ys : List Entry). x ∷ ys) (append_nil xs)
+    by_cases (Some e) is =
+        let f = found_at w.file w.start es e is in
+        let forward = (and_parts (nat_le e.1 e.0.1) (are_forward f.after) (are_forward-append f.before (e ∷ f.after) (ap are_forward (sym f.whole) ∙ kept.forward)).1).0 in
+        at_gap f.before (e ∷ f.after) f.whole f.past (later_key w e order forward (alone e is)) (alone e is)
+      where
+        later_key : (w : Span) (e : Entry) → w.start ≤ w.end → nat_le e.1 e.0.1 ≡ true → is_before (range_of w) (span_of e) ≡ true → (nat_lt w.file e.0.0 || (e.0.0 == w.file && nat_lt w.end e.0.1)) ≡ true
+        later_key w e a b c = grind (arith, nat_tests)
+
 -- ---- an empty span is made
 pub record Held (es : List Entry) (file at : ℕ) (fs : List Entry) : Type 0 where
   pub kept : IsKept fs
@@ -210,58 +262,63 @@ pub record Held (es : List Entry) (file at : ℕ) (fs : List Entry) : Type 0 whe
   pub spans : spans_of fs ≡ inserted (file, at, 0) (spans_of es)
 
 pub held : (es : List Entry) (file at : ℕ) → is_span (file, at, 0) ≡ true → IsKept es → is_touched (spans_of es) file at ≡ false → Held es file at (insert_entry key_cmp es (file, at) at)
-held es file at fits kept free = by_cases (first_at file at es) refl
+held es file at fits kept free =
+    let is = entered es empty (ap is_span none ∙ fits) (omega arith) kept alone in
+    record {
+      kept = is.kept;
+      places_stay = same (places_in (insert_entry key_cmp es (file, at) at)) (places_in es) (at - at) is.places_more (nothing at);
+      ranges_stay = same (ranges_in (insert_entry key_cmp es (file, at) at)) (ranges_in es) (count_of (range_of empty)) is.ranges_more (ap count_of none);
+      spans = is.spans ∙ ap (λ (r : Range). inserted r (spans_of es)) none;
+    }
   where
-    -- the new span stands between those that end before it and the others
-    at_gap : (before after : List Entry) → es ≡ before ++ after → AllEnd before file at → IsPast file at after → is_first (file, at, 0) (spans_of after) ≡ true → Held es file at (insert_entry key_cmp es (file, at) at)
-    at_gap before after whole past later first =
-        let new : Entry = ((file, at), at) in
-        let is : insert_entry key_cmp es (file, at) at ≡ before ++ new ∷ after = ap (λ (xs : List Entry). insert_entry key_cmp xs (file, at) at) whole ∙ entry_new file at before after at past later in
-        let both = are_forward-append before after (ap are_forward (sym whole) ∙ kept.forward) in
-        let split : spans_of es ≡ spans_of before ++ spans_of after = ap spans_of whole ∙ spans_of-append before after in
-        let empty : span_of new ≡ (file, at, 0) = (λ i. (file, at, nothing at i)) in
-        let spans : spans_of (insert_entry key_cmp es (file, at) at) ≡ inserted (file, at, 0) (spans_of es) =
-        ap spans_of is ∙ spans_of-append before (new ∷ after)
-        ∙ ap (λ (x : Range). spans_of before ++ x ∷ spans_of after) empty
-        ∙ sym (inserted-alone (spans_of before) (spans_of after) (file, at, 0) (spans_before before (file, at, 0) both.0 past) first)
-        ∙ ap (inserted (file, at, 0)) (sym split) in
-        let sums = ap spans_of is ∙ spans_of-append before (new ∷ after) ∙ ap (λ (x : Range). spans_of before ++ x ∷ spans_of after) empty in
-        record {
-          kept = record {
-            forward = ap are_forward is ∙ forward_both before (new ∷ after) both.0 (and_from (nat_le at at) (are_forward after) (le-leb at at (omega arith)) both.1);
-            spaced = ap is_spaced spans ∙ is_spaced-inserted (file, at, 0) (spans_of es) fits kept.spaced;
-          };
-          places_stay = same_sum (λ (q : Range). q.2) (spans_of before) (spans_of after) es _ split sums refl;
-          ranges_stay = same_sum count_of (spans_of before) (spans_of after) es _ split sums refl;
-          spans = spans;
-        }
-      where
-        nothing : (n : ℕ) → n - n ≡ 0
-        nothing n = omega arith
+    empty : Span
+    empty = record { file = file; start = at; end = at }
 
-        same_sum : (f : Range → ℕ) (ps qs : List Range) (es fs : List Entry) → spans_of es ≡ ps ++ qs → spans_of fs ≡ ps ++ (file, at, 0) ∷ qs → f (file, at, 0) ≡ 0 → sum_by f (spans_of fs) ≡ sum_by f (spans_of es)
-        same_sum f ps qs es fs e e' zero_at =
-            let old = ap (sum_by f) e in
-            let new = ap (sum_by f) e' ∙ sum_cut f ps qs (file, at, 0) in
-            omega arith
+    nothing : (n : ℕ) → n - n ≡ 0
+    nothing n = omega arith
 
-    by_cases : (o : Option Entry) → first_at file at es ≡ o → Held es file at (insert_entry key_cmp es (file, at) at)
-    by_cases None is = at_gap es [] (sym (append_nil es)) (all_end file at es is) tt refl
-      where
-        append_nil : (xs : List Entry) → xs ++ [] ≡ xs
-        append_nil [] = refl
-        append_nil (x ∷ xs) = ap (λ (ys : List Entry). x ∷ ys) (append_nil xs)
-    by_cases (Some e) is =
-        let f = found_at file at es e is in
-        let forward = (and_parts (nat_le e.1 e.0.1) (are_forward f.after) (are_forward-append f.before (e ∷ f.after) (ap are_forward (sym f.whole) ∙ kept.forward)).1).0 in
-        let apart = sym (touched_by_first es e file at kept is) ∙ free in
-        at_gap f.before (e ∷ f.after) f.whole f.past (later_key e forward apart f.here) (later_span e forward apart f.here)
-      where
-        later_key : (e : Entry) → nat_le e.1 e.0.1 ≡ true → (e.0.0 == file && nat_le e.1 at) ≡ false → ends_before e file at ≡ false → (nat_lt file e.0.0 || (e.0.0 == file && nat_lt at e.0.1)) ≡ true
-        later_key e a b c = grind (arith, nat_tests)
+    none : range_of empty ≡ (file, at, 0)
+    none = λ i. (file, at, nothing at i)
 
-        later_span : (e : Entry) → nat_le e.1 e.0.1 ≡ true → (e.0.0 == file && nat_le e.1 at) ≡ false → ends_before e file at ≡ false → is_before (file, at, 0) (span_of e) ≡ true
-        later_span e a b c = grind (arith, nat_tests)
+    same : (new old n : ℕ) → new ≡ old + n → n ≡ 0 → new ≡ old
+    same new old n e z = omega arith
+
+    alone : IsAlone empty es
+    alone e is =
+        let cut = cut_at es e (file, at, 0) kept is in
+        begins_behind e cut.forward (sym (touched_by_first es e file at kept is) ∙ free) cut.here
+      where
+        begins_behind : (e : Entry) → e.1 ≤ e.0.1 → (e.0.0 == file && nat_le e.1 at) ≡ false → is_before (span_of e) (file, at, 0) ≡ false → is_before (range_of empty) (span_of e) ≡ true
+        begins_behind e a b c = grind (arith, nat_tests)
+
+-- ---- a span that lies within another changes nothing
+pub inserted-inside : (es : List Entry) (w s : Span) → IsKept es → w.start ≤ w.end → first_at w.file w.start es ≡ Some (entry_of s) → is_within (range_of s) (range_of w) ≡ true → inserted (range_of w) (spans_of es) ≡ spans_of es
+inserted-inside es w s kept order found within = by_cut (cut_at es (entry_of s) (range_of w) kept found)
+  where
+    by_cut : Cut es (entry_of s) (range_of w) → inserted (range_of w) (spans_of es) ≡ spans_of es
+    by_cut c =
+        ap (inserted (range_of w)) c.whole
+        ∙ inserted-stretched c.before c.after (range_of w) (range_of s) c.spaced c.past (record { back = c.here; forth = not_past w s order c.forward within }) (no_longer w s order c.forward within)
+        ∙ ap (λ (x : Range). c.before ++ x ∷ c.after) (same_span w s order c.forward within)
+        ∙ sym c.whole
+      where
+        not_past : (w s : Span) → w.start ≤ w.end → s.start ≤ s.end → is_within (range_of s) (range_of w) ≡ true → is_before (range_of w) (range_of s) ≡ false
+        not_past w s a b c = grind (arith, nat_tests)
+
+        no_longer : (w s : Span) → w.start ≤ w.end → s.start ≤ s.end → is_within (range_of s) (range_of w) ≡ true → w.start + (w.end - w.start) ≤ s.start + (s.end - s.start)
+        no_longer w s a b c = grind (arith, nat_tests)
+
+        same_file : (w s : Span) → is_within (range_of s) (range_of w) ≡ true → w.file ≡ s.file
+        same_file w s c = grind (arith, nat_tests)
+
+        same_start : (w s : Span) → is_within (range_of s) (range_of w) ≡ true → min w.start s.start ≡ s.start
+        same_start w s c = grind (arith, nat_tests)
+
+        same_len : (w s : Span) → w.start ≤ w.end → s.start ≤ s.end → is_within (range_of s) (range_of w) ≡ true → max (w.start + (w.end - w.start)) (s.start + (s.end - s.start)) - min w.start s.start ≡ s.end - s.start
+        same_len w s a b c = grind (arith, nat_tests)
+
+        same_span : (w s : Span) → w.start ≤ w.end → s.start ≤ s.end → is_within (range_of s) (range_of w) ≡ true → joined (range_of w) (range_of s) ≡ range_of s
+        same_span w s a b c = λ i. (same_file w s c i, same_start w s c i, same_len w s a b c i)
 
 -- ---- an empty span is taken out
 pub record LetGo (es fs : List Entry) : Type 0 where

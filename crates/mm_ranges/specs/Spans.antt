@@ -1,7 +1,9 @@
 -- The entries of a map from where spans end to where they start.
 use Rattle.std.specs.Prelude.{◌≡◌, ℕ, ◌-◌, ◌≤◌, Bool, true, ◌&&◌, ◌||◌, if◌then◌else◌, nat_le, nat_lt, ◌==◌, List, [], ◌∷◌, Option, Some, None, sum_by}
-use Rattle.mm_ranges.specs.Places.{Range, is_spaced}
+use Rattle.mm_ranges.specs.Places.{Range, is_before, is_spaced, inserted}
 use Rattle.mm_ranges.specs.Room.{is_touched}
+use Rattle.mm_ranges.specs.declared.spans.Reach.{Reach}
+use Rattle.mm_ranges.specs.declared.spans.Reach.TheVariants.{Inside, Alone, Touching}
 use Rattle.mm_ranges.specs.declared.spans.Span.{Span}
 use Rattle.mm_ranges.specs.declared.spans.Tally.{Tally}
 
@@ -68,6 +70,16 @@ pub record Joins (whole : Span) (es : List Entry) : Type 0 where
 -- no span that ends within it reaches it
 abbrev pub IsLast : Span → List Entry → Type 0
 IsLast whole es = (e : Entry) → first_at whole.file whole.start es ≡ Some e → whole.end ≤ e.0.1
+
+-- no span touches it: the first that doesn't end before it begins behind it
+abbrev pub IsAlone : Span → List Entry → Type 0
+IsAlone whole es = (e : Entry) → first_at whole.file whole.start es ≡ Some e → is_before (range_of whole) (span_of e) ≡ true
+
+-- what is said of a span that lies so to those of a map
+abbrev pub LiesSo : Reach → Span → List Entry → Type 0
+LiesSo Inside whole es = inserted (range_of whole) (spans_of es) ≡ spans_of es
+LiesSo Alone whole es = IsAlone whole es
+LiesSo Touching whole es = Unit {0}
 
 -- entries in order, and counted
 pub record IsCounted (tally : Tally) (es : List Entry) : Type 0 where

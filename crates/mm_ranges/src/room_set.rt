@@ -6,7 +6,9 @@ ghost use Rattle.mm_ranges.specs.Room.{shown, has_room, is_touched};
 use crate::memory::NoMemory;
 use crate::range_iter::RangeIter;
 use crate::range_set::RangeSet;
-use crate::spans::{Span, Starts, Tally, are_covered, hold, let_go, put};
+use crate::spans::{
+    Reach, Span, Starts, Tally, are_covered, hold, how_near, let_go, put, put_alone,
+};
 use std::alloc::Global;
 use std::collections::BTreeMap;
 use std::marker::Model;
@@ -78,8 +80,20 @@ impl RoomSet {
         ensures ok { OnOk result (shown self.new ≡ inserted (file, at, len) (shown self.old)) }
         ensures err { OnErr result (shown self.new ≡ shown self.old) }
     {
-        self.make_room_at(file, at + len)?;
-        self.put(file, at, len);
+        let end = at + len;
+        let new = Span {
+            file,
+            start: at,
+            end,
+        };
+        match how_near(&self.starts, new) {
+            Reach::Inside => {}
+            Reach::Alone => put_alone(&mut self.starts, &mut self.tally, new)?,
+            Reach::Touching => {
+                self.make_room_at(file, end)?;
+                self.put(file, at, len);
+            }
+        }
         Ok(())
     }
 

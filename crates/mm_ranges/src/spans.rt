@@ -1,9 +1,9 @@
 // Spans of places in a map, each at its end, so that one look-up finds the first span that reaches a place.
 ghost use Rattle.std.specs.Prelude.{◌≡◌, ℕ, ◌+◌, ◌-◌, ◌^◌, ◌<◌, ◌≤◌, List, Some, IfSome, IfNone, OnOk, OnErr, IsTrue, ◌↔◌, nat_le, ◌==◌, ◌&&◌};
 ghost use Rattle.std.specs.Option.{option_map};
-ghost use Rattle.mm_ranges.specs.Places.{Covers, is_within, inserted};
+ghost use Rattle.mm_ranges.specs.Places.{Covers, is_before, is_within, inserted};
 ghost use Rattle.mm_ranges.specs.Room.{is_touched, shown};
-ghost use Rattle.mm_ranges.specs.Spans.{IsKept, Counts, Joins, IsLast, spans_of, first_at, count_of, places_in, ranges_in, range_of, entry_of};
+ghost use Rattle.mm_ranges.specs.Spans.{IsKept, Counts, Joins, IsLast, IsAlone, LiesSo, spans_of, first_at, count_of, places_in, ranges_in, range_of, entry_of};
 
 use crate::memory::NoMemory;
 use std::collections::BTreeMap;
@@ -168,6 +168,67 @@ fn stretch(starts: &mut Starts, tally: &mut Tally, whole: Span)
     }
 }
 
+// How a span lies to those of a map.
+#[derive(Clone, Copy)]
+pub(crate) enum Reach {
+    // within one, so that it changes nothing
+    Inside,
+    // it touches none
+    Alone,
+    Touching,
+}
+
+// Whether a span has all of another.
+fn has_span(span: Span, new: Span) -> bool
+    requires old { span.start ≤ span.end }
+    requires new { new.start ≤ new.end }
+    ensures { result ≡ is_within (range_of span) (range_of new) }
+{
+    span.file == new.file && span.start <= new.start && new.end <= span.end
+}
+
+// Whether a span begins behind another, with a place between them.
+fn is_behind(span: Span, new: Span) -> bool
+    requires { new.start ≤ new.end }
+    ensures { result ≡ is_before (range_of new) (range_of span) }
+{
+    new.file < span.file || (new.file == span.file && new.end < span.start)
+}
+
+// How a span lies to those of the map.
+pub(crate) fn how_near(starts: &Starts, new: Span) -> Reach
+    requires kept { IsKept starts.now.entries }
+    requires order { new.start ≤ new.end }
+    ensures { LiesSo result new starts.now.entries }
+{
+    let Some(span) = first_from(starts, new.file, new.start) else {
+        return Reach::Alone;
+    };
+    if has_span(span, new) {
+        Reach::Inside
+    } else if is_behind(span, new) {
+        Reach::Alone
+    } else {
+        Reach::Touching
+    }
+}
+
+// Puts in a span that touches no other.
+pub(crate) fn put_alone(starts: &mut Starts, tally: &mut Tally, new: Span) -> Result<(), NoMemory>
+    requires kept { IsKept starts.old.entries }
+    requires counts { Counts tally.old starts.old.entries }
+    requires order { new.start ≤ new.end }
+    requires alone { IsAlone new starts.old.entries }
+    ensures ok { OnOk result (spans_of starts.new.entries ≡ inserted (range_of new) (spans_of starts.old.entries)) }
+    ensures err { OnErr result (starts.new.entries ≡ starts.old.entries) }
+    ensures kept { IsKept starts.new.entries }
+    ensures counts { Counts tally.new starts.new.entries }
+{
+    starts.insert((new.file, new.end), new.start)?;
+    *tally = tally.with(new);
+    Ok(())
+}
+
 // Puts a span in among the others. It takes no memory.
 pub(crate) fn put(starts: &mut Starts, tally: &mut Tally, new: Span)
     requires kept { IsKept starts.old.entries }
@@ -177,6 +238,9 @@ pub(crate) fn put(starts: &mut Starts, tally: &mut Tally, new: Span)
     ensures counts { Counts tally.new starts.new.entries }
     ensures spans { spans_of starts.new.entries ≡ inserted (range_of new) (spans_of starts.old.entries) }
 {
+    if let Reach::Inside = how_near(starts, new) {
+        return;
+    }
     let whole = swallow(starts, tally, new);
     stretch(starts, tally, whole);
 }
