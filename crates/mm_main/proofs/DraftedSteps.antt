@@ -1,5 +1,5 @@
 -- Bytes of the data file that are written in a draft.
-use Rattle.std.proofs.Common.{◌≡◌, ℕ, pos, negsuc, ◌+◌, ◌-◌, ◌≤◌, true, false, List, [], ◌∷◌, ◌++◌, length, take, drop, replicate, refl, sym, ap, ◌∙◌, arith, subst, append-nil, append_assoc, Result}
+use Rattle.std.proofs.Common.{◌≡◌, ℕ, pos, negsuc, ◌+◌, ◌-◌, ◌<◌, ◌≤◌, true, false, List, [], ◌∷◌, ◌++◌, length, take, drop, replicate, refl, sym, ap, ◌∙◌, arith, subst, append-nil, append_assoc, Result}
 use Rattle.std.specs.Prelude.{OnOk}
 use Rattle.std.proofs.lemmas.List.{drop-drop, take-append-drop}
 use Rattle.std.proofs.lemmas.Result.{on_ok_weaker}
@@ -8,14 +8,14 @@ use Rattle.mm_base.specs.Tables.{Cell, HasAll, AllInRange, tiles, joined}
 use Rattle.mm_base.proofs.Parts.{length-overwritten, part_before, part_behind, part_front}
 use Rattle.mm_ranges.specs.Bytes.{read_from, overwritten as laid_on}
 use Rattle.mm_ranges.specs.Overlay.{laid}
-use Rattle.mm_ranges.specs.Places.{Range}
+use Rattle.mm_ranges.specs.Places.{Range, Covers}
 use Rattle.mm_ranges.proofs.Overlaying.{bytes_at-laid}
 use Rattle.mm_views.specs.State.{Drafting}
 use Rattle.mm_frames.specs.RecHeader.{rec_header_of, rec_header_table}
 use Rattle.mm_frames.specs.declared.rec_header.RecHeader.{RecHeader}
 use Rattle.mm_frames.proofs.Again.{rec_header_is}
 use Rattle.mm_main.specs.DataFile.{linked}
-use Rattle.mm_main.specs.Drafted.{drafted, Keeps, LeadsOn}
+use Rattle.mm_main.specs.Drafted.{drafted, Keeps, IsLaid, LeadsOn}
 use Rattle.mm_main.specs.Written.{SameBefore, SameBehind}
 use Rattle.mm_main.proofs.FrameSteps.{has_put}
 
@@ -29,18 +29,39 @@ same_laid at bytes old inside =
     let front : take at old ++ replicate {A = ℕ} (at - length old) 0 ≡ take at old = ap (λ (xs : List ℕ). take at old ++ xs) (none_of (at - length old) (omega (arith, inside))) ∙ append-nil (take at old) in
     append_assoc (take at old ++ replicate {A = ℕ} (at - length old) 0) bytes (drop (at + length bytes) old) ∙ ap (λ (xs : List ℕ). xs ++ (bytes ++ drop (at + length bytes) old)) front ∙ ap (λ (xs : List ℕ). take at old ++ (bytes ++ xs)) (sym (drop-drop (length bytes) at old))
 
-pub put_bytes : (old mid new : Drafting) (declared : List Range) (at : ℕ) (bytes : List ℕ) → at ≤ length (drafted old) → mid ≡ record old { declared = declared; is_reserved = false } → new ≡ record mid { image = laid 0 at bytes mid.image; is_reserved = false }
-    → drafted new ≡ overwritten at bytes (drafted old)
-put_bytes old mid new declared at bytes inside before after =
-    ap (λ (d : Drafting). drafted d) after ∙ bytes_at-laid 0 at bytes mid.image ∙ ap (λ (d : Drafting). laid_on at bytes (drafted d)) before ∙ same_laid at bytes (drafted old) inside
+nothing : (payload : List ℕ) → length payload ≡ 0 → payload ≡ []
+nothing [] none = refl
+nothing (x ∷ payload) none = absurd (omega (arith, none))
 
--- the draft keeps all else
-pub put_keeps : (old mid new : Drafting) (declared : List Range) (at : ℕ) (bytes : List ℕ) → at + length bytes ≤ length (drafted old) → mid ≡ record old { declared = declared; is_reserved = false } → new ≡ record mid { image = laid 0 at bytes mid.image; is_reserved = false } → Keeps old new
-put_keeps old mid new declared at bytes inside before after = record {
-  views = ap (λ (d : Drafting). d.views) after ∙ ap (λ (d : Drafting). d.views) before;
-  made = ap (λ (d : Drafting). d.made) after ∙ ap (λ (d : Drafting). d.made) before;
-  size = ap length (put_bytes old mid new declared at bytes (omega (arith, inside)) before after) ∙ length-overwritten at bytes (drafted old) inside;
-}
+-- no bytes change nothing
+put_none : (at : ℕ) (payload file : List ℕ) → length payload ≡ 0 → file ≡ overwritten at payload file
+unfolding overwritten
+put_none at payload file none = sym (ap (λ (xs : List ℕ). take at file ++ (xs ++ drop (length xs) (drop at file))) (nothing payload none) ∙ take-append-drop at file)
+
+-- what a write in a draft leaves
+pub is_laid : (old new : Drafting) (at : ℕ) (bytes : List ℕ) → at + length bytes ≤ length (drafted old)
+    → (0 < length bytes → new ≡ record old { image = laid 0 at bytes old.image; is_reserved = false }) → (length bytes ≡ 0 → new ≡ old) → IsLaid at bytes old new
+is_laid old new at [] inside some none = subst (λ (d : Drafting). IsLaid at [] old d) (sym (none refl)) (record {
+  written = put_none at [] (drafted old) refl;
+  declared = refl;
+  keeps = record { views = refl; made = refl; size = refl };
+})
+is_laid old new at (byte ∷ bytes) inside some none = subst (λ (d : Drafting). IsLaid at (byte ∷ bytes) old d) (sym (some (omega arith))) (record {
+  written = written;
+  declared = refl;
+  keeps = record { views = refl; made = refl; size = ap length written ∙ length-overwritten at (byte ∷ bytes) (drafted old) inside };
+})
+  where
+    written : drafted (record old { image = laid 0 at (byte ∷ bytes) old.image; is_reserved = false }) ≡ overwritten at (byte ∷ bytes) (drafted old)
+    written = bytes_at-laid 0 at (byte ∷ bytes) old.image ∙ same_laid at (byte ∷ bytes) (drafted old) (omega (arith, inside))
+
+-- a part of what is declared is declared
+pub covers_part : (rs : List Range) (file at len from n : ℕ) → at ≤ from → from + n ≤ at + len → Covers rs file at len → Covers rs file from n
+covers_part rs file at len from n behind before all = λ i low high. all i (omega (arith, behind, low)) (omega (arith, before, high))
+
+-- what was kept twice is kept
+pub keeps_both : (old mid new : Drafting) → Keeps old mid → Keeps mid new → Keeps old new
+keeps_both old mid new a b = record { views = b.views ∙ a.views; made = b.made ∙ a.made; size = b.size ∙ a.size }
 
 -- ---- of a frame that was put, where it was put
 
@@ -53,15 +74,6 @@ put_before T E r at frame old new inside put = on_ok_weaker r (λ is. λ q m bef
 
 pub put_behind : (T E : Type 0) (r : Result T E) (at end : ℕ) (frame old new : List ℕ) → at ≤ length old → at + length frame ≤ end → OnOk r (new ≡ overwritten at frame old) → OnOk r (SameBehind end old new)
 put_behind T E r at end frame old new inside short put = on_ok_weaker r (λ is. λ q m behind. ap (part q m) is ∙ part_behind q m at frame old (omega (arith, short, behind)) inside) put
-
-nothing : (payload : List ℕ) → length payload ≡ 0 → payload ≡ []
-nothing [] none = refl
-nothing (x ∷ payload) none = absurd (omega (arith, none))
-
--- no bytes change nothing
-pub put_none : (at : ℕ) (payload file : List ℕ) → length payload ≡ 0 → file ≡ overwritten at payload file
-unfolding overwritten
-put_none at payload file none = sym (ap (λ (xs : List ℕ). take at file ++ (xs ++ drop (length xs) (drop at file))) (nothing payload none) ∙ take-append-drop at file)
 
 -- ---- a record's header that is read, and written so that it leads on
 

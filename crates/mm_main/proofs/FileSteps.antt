@@ -1,5 +1,5 @@
 -- A block lies inside the file, and the file's header stays while other parts are written.
-use Rattle.std.proofs.Common.{◌≡◌, ℕ, ◌+◌, ◌-◌, ◌≤◌, List, sym, arith, subst}
+use Rattle.std.proofs.Common.{ℕ, ◌+◌, ◌-◌, ◌≤◌, List, sym, arith, subst}
 use Rattle.std.proofs.lemmas.Bool.{cond_both}
 use Rattle.mm_base.specs.Tables.{HasAll}
 use Rattle.mm_frames.specs.FileHeader.{file_header_table}

@@ -1,6 +1,6 @@
 -- The one data file in a draft, and what a change of it keeps.
 use Rattle.std.specs.Prelude.{◌≡◌, ℕ, ℤ, pos, negsuc, ◌+◌, ◌≤◌, List, [], ◌∷◌, length, Option, Some, None}
-use Rattle.mm_base.specs.Bytes.{part}
+use Rattle.mm_base.specs.Bytes.{part, overwritten}
 use Rattle.mm_base.specs.Tables.{HasAll}
 use Rattle.mm_frames.specs.RecHeader.{rec_header_table}
 use Rattle.mm_ranges.specs.Overlay.{bytes_at}
@@ -20,6 +20,12 @@ pub record Keeps (old new : Drafting) : Type 0 where
   pub views : new.views ≡ old.views
   pub made : new.made ≡ old.made
   pub size : length (drafted new) ≡ length (drafted old)
+
+-- bytes are written over those of the data file, and nothing else changes
+pub record IsLaid (at : ℕ) (bytes : List ℕ) (old new : Drafting) : Type 0 where
+  pub written : drafted new ≡ overwritten at bytes (drafted old)
+  pub declared : new.declared ≡ old.declared
+  pub keeps : Keeps old new
 
 -- where the blocks of some payloads end, which begin at an offset
 abbrev pub end_from : ℕ → List (List ℕ) → ℕ

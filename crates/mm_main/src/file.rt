@@ -6,15 +6,16 @@ ghost use Rattle.mm_base.specs.Tables.{HasAll};
 ghost use Rattle.mm_frames.specs.RecHeader.{rec_header_of, rec_header_table};
 ghost use Rattle.mm_main.specs.Room.{file_len, extent_at, first_at, request, block_len};
 ghost use Rattle.mm_main.specs.DataFile.{at_file_0, linked, HasFileHeader, HasExtentHeader, IsRecord, IsRest, namespace_of};
-ghost use Rattle.mm_main.specs.Drafted.{drafted, Keeps, Stands, LeadsOn, SameBetween};
+ghost use Rattle.mm_ranges.specs.Places.{Covers};
+ghost use Rattle.mm_main.specs.Drafted.{drafted, Keeps, IsLaid, Stands, LeadsOn, SameBetween};
 ghost use Rattle.mm_main.specs.Written.{SameBefore, SameBehind};
 
 use crate::answers::{EXTENT_AT, FILE_LEN, FIRST_AT, block_len};
 use mm_base::{DiskLoc, NoMemory, put_bytes};
 use mm_frames::{
-    CHAIN_END, DeletedHeader, EXTENT_MAGIC, ExtentHeader, FileHeader, REC_HEADER_LEN, RecHeader,
-    deleted_header_frame, extent_header_frame, file_header_frame, read_rec_header,
-    rec_header_frame,
+    CHAIN_END, DELETED_HEADER_LEN, DeletedHeader, EXTENT_MAGIC, ExtentHeader, FileHeader,
+    REC_HEADER_LEN, RecHeader, deleted_header_frame, extent_header_frame, file_header_frame,
+    read_rec_header, rec_header_frame,
 };
 use mm_views::Draft;
 
@@ -57,6 +58,29 @@ fn no_place() -> DiskLoc
     DiskLoc::NULL
 }
 
+// Declares some bytes of the file.
+fn open(draft: &mut Draft, at: usize, len: usize) -> Result<(), NoMemory>
+    requires size { length (drafted draft.old) ≡ file_len }
+    requires some { 0 < len }
+    requires inside { at + len ≤ file_len }
+    ensures same { OnOk result (drafted draft.new ≡ drafted draft.old) }
+    ensures opened { OnOk result (Covers draft.new.declared 0 at len) }
+    ensures keeps { Keeps draft.old draft.new }
+{
+    draft.declare(FILE, at as u32, len as u32)?;
+    Ok(())
+}
+
+// Writes declared bytes of the file.
+fn lay(draft: &mut Draft, at: usize, bytes: &[u8])
+    requires size { length (drafted draft.old) ≡ file_len }
+    requires inside { at + length bytes.now ≤ file_len }
+    requires opened { Covers draft.old.declared 0 at (length bytes.now) }
+    ensures { IsLaid at bytes.now draft.old draft.new }
+{
+    draft.write(FILE, at as u32, bytes);
+}
+
 // Declares some bytes of the file, and writes them.
 fn put(draft: &mut Draft, at: usize, bytes: &[u8]) -> Result<(), NoMemory>
     requires size { length (drafted draft.old) ≡ file_len }
@@ -65,8 +89,8 @@ fn put(draft: &mut Draft, at: usize, bytes: &[u8]) -> Result<(), NoMemory>
     ensures ok { OnOk result (drafted draft.new ≡ overwritten at bytes.now (drafted draft.old)) }
     ensures keeps { Keeps draft.old draft.new }
 {
-    draft.declare(FILE, at as u32, bytes.len() as u32)?;
-    draft.write(FILE, at as u32, bytes);
+    open(draft, at, bytes.len())?;
+    lay(draft, at, bytes);
     Ok(())
 }
 
@@ -122,32 +146,15 @@ fn put_extent(draft: &mut Draft, collection: &[u8], last: usize) -> Result<(), N
     put(draft, EXTENT_AT, &extent_header_frame(&header))
 }
 
-// Writes a record's payload behind its header.
-fn put_payload(draft: &mut Draft, at: usize, payload: &[u8]) -> Result<(), NoMemory>
-    requires size { length (drafted draft.old) ≡ file_len }
-    requires inside { at + 16 + length payload.now ≤ file_len }
-    ensures ok { OnOk result (drafted draft.new ≡ overwritten (at + 16) payload.now (drafted draft.old)) }
-    ensures keeps { Keeps draft.old draft.new }
-{
-    if payload.is_empty() {
-        return Ok(());
-    }
-    put(draft, at + REC_HEADER_LEN, payload)
-}
-
-// Writes the last record.
-fn put_record(
-    draft: &mut Draft,
-    at: usize,
-    len: usize,
-    prev: i32,
-    payload: &[u8],
-) -> Result<(), NoMemory>
+// Writes the last record into its block, which is declared.
+fn lay_record(draft: &mut Draft, at: usize, len: usize, prev: i32, payload: &[u8])
     requires size { length (drafted draft.old) ≡ file_len }
     requires inside { at + len ≤ file_len }
     requires room { length payload.now + 16 ≤ len }
-    ensures written { OnOk result (IsRecord (drafted draft.new) at len prev (negsuc 0) payload.now) }
-    ensures before { OnOk result (SameBefore at (drafted draft.old) (drafted draft.new)) }
+    requires opened { Covers draft.old.declared 0 at len }
+    ensures written { IsRecord (drafted draft.new) at len prev (negsuc 0) payload.now }
+    ensures before { SameBefore at (drafted draft.old) (drafted draft.new) }
+    ensures declared { draft.new.declared ≡ draft.old.declared }
     ensures keeps { Keeps draft.old draft.new }
 {
     let header = RecHeader {
@@ -156,8 +163,8 @@ fn put_record(
         next_ofs: CHAIN_END,
         prev_ofs: prev,
     };
-    put(draft, at, &rec_header_frame(&header))?;
-    put_payload(draft, at, payload)
+    lay(draft, at, &rec_header_frame(&header));
+    lay(draft, at + REC_HEADER_LEN, payload);
 }
 
 // Makes the last record so far lead on.
@@ -179,24 +186,40 @@ fn put_next(draft: &mut Draft, last: usize, next: usize) -> Result<(), NoMemory>
     put(draft, last, &rec_header_frame(&header))
 }
 
-// Makes one deleted block of what is left of the extent.
-fn put_rest(draft: &mut Draft, at: usize) -> Result<(), NoMemory>
+// Makes one deleted block of what is left of the extent. Its header is declared.
+fn lay_rest(draft: &mut Draft, at: usize)
     requires size { length (drafted draft.old) ≡ file_len }
     requires inside { at ≤ file_len }
     requires no_crumb { at < file_len → at + 32 ≤ file_len }
-    ensures rest { OnOk result (IsRest (drafted draft.new) at) }
-    ensures before { OnOk result (SameBefore at (drafted draft.old) (drafted draft.new)) }
+    requires opened { at < file_len → Covers draft.old.declared 0 at 16 }
+    ensures rest { IsRest (drafted draft.new) at }
+    ensures before { SameBefore at (drafted draft.old) (drafted draft.new) }
     ensures keeps { Keeps draft.old draft.new }
 {
     if at == FILE_LEN {
-        return Ok(());
+        return;
     }
     let header = DeletedHeader {
         length_with_headers: (FILE_LEN - at) as i32,
         extent_ofs: EXTENT_AT as i32,
         next_deleted: no_place(),
     };
-    put(draft, at, &deleted_header_frame(&header))
+    lay(draft, at, &deleted_header_frame(&header));
+}
+
+// Declares a whole block, its padding too, and the header of what is left behind it. So blocks side by side are one range.
+fn open_block(draft: &mut Draft, at: usize, len: usize) -> Result<(), NoMemory>
+    requires size { length (drafted draft.old) ≡ file_len }
+    requires some { 0 < len }
+    requires inside { at + len ≤ file_len }
+    requires no_crumb { at + len < file_len → at + len + 32 ≤ file_len }
+    ensures same { OnOk result (drafted draft.new ≡ drafted draft.old) }
+    ensures block { OnOk result (Covers draft.new.declared 0 at len) }
+    ensures rest { OnOk result (at + len < file_len → Covers draft.new.declared 0 (at + len) 16) }
+    ensures keeps { Keeps draft.old draft.new }
+{
+    let end = (at + len + DELETED_HEADER_LEN).min(FILE_LEN);
+    open(draft, at, end - at)
 }
 
 // Writes the extent with one record more, and what is left behind it.
@@ -222,8 +245,9 @@ fn put_block(
 {
     let len = block_len(at, payload.len());
     put_extent(draft, collection, at)?;
-    put_record(draft, at, len, prev, payload)?;
-    put_rest(draft, at + len)?;
+    open_block(draft, at, len)?;
+    lay_record(draft, at, len, prev, payload);
+    lay_rest(draft, at + len);
     Ok(Chain {
         end: at + len,
         last: Some(at),
