@@ -1,0 +1,4 @@
+pub mod Hash
+pub mod Nodes
+pub mod Table
+pub mod Changes
