@@ -75,7 +75,6 @@ refused_from text at rest place utf8 inside h whole =
       none = λ e q low high l. absurd (cc (sym (stretch_read text at q e l) ∙ h));
       begun = begun_from text at rest place utf8 h whole inside;
       past = past_from text at t.0 rest place t.1 h whole (omega (arith, sizes));
-      stops = (rest, h, whole);
     }
 
 pub one_document : (d e : Elements) (text : List ℕ) → IsDocumentText d text → IsDocumentText e text → d ≡ e

@@ -1,6 +1,7 @@
 pub mod Loops
 pub mod Core
 pub mod Leaves
+pub mod Digits
 pub mod Texts
 pub mod Trees
 pub mod Nests

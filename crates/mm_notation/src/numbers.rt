@@ -1,11 +1,12 @@
 //! Reading integers and hex digits.
 
 ghost use Rattle.std.specs.Prelude.{◌≡◌, ◌<◌, ◌≤◌, ◌+◌, ◌*◌, ◌-◌, ◌^◌, length, true, false, IfOk, IfSome, nat_lt, ◌||◌, ◌==◌, if◌then◌else◌};
-ghost use Rattle.hex.specs.Hex.{hex_digit_value};
+ghost use Rattle.hex.specs.Hex.{hex_digit_value, pair_value};
 ghost use Rattle.mm_notation.specs.Grammar.{negated};
 ghost use Rattle.mm_notation.specs.Reading.{Gives, is_digit as is_digit_of, digits_at, natural_at, integer_at, unsigned_at, digit_at, pair_at};
 
 use crate::stop::Stop;
+use hex::{FromHex, FromHexError};
 
 fn is_digit(byte: u8) -> bool
     ensures { result ≡ is_digit_of byte }
@@ -112,16 +113,19 @@ pub(crate) fn unsigned(high: u64, text: &[u8]) -> Result<(u64, &[u8]), Stop<'_>>
     natural(high, text)
 }
 
+/// The byte of two hex digits.
+fn byte_of(high: u8, low: u8) -> Result<u8, FromHexError>
+    ensures { result ≡ pair_value high low 0 }
+{
+    let [byte] = <[u8; 1] as FromHex>::from_hex([high, low].as_slice())?;
+    Ok(byte)
+}
+
 fn digit_value(byte: u8) -> Option<u8>
     ensures value { result ≡ hex_digit_value byte }
     ensures small { IfSome result (λ d. d < 16) }
 {
-    match byte {
-        b'A'..=b'F' => Some(byte - b'A' + 10),
-        b'a'..=b'f' => Some(byte - b'a' + 10),
-        b'0'..=b'9' => Some(byte - b'0'),
-        _ => None,
-    }
+    byte_of(b'0', byte).ok()
 }
 
 /// A hex digit from `low` to `high`.
@@ -153,7 +157,13 @@ pub(crate) fn hex_pair(text: &[u8]) -> Result<(u8, &[u8]), Stop<'_>>
     ensures gives { Gives (λ x. (x.0, x.1.now)) result (pair_at text.now) }
     ensures left { IfOk result (λ x. length x.1.now < length text.now) }
 {
-    let (high, rest) = hex_digit(0, 15, text)?;
-    let (low, rest) = hex_digit(0, 15, rest)?;
-    Ok((high * 16 + low, rest))
+    let [high, low, others @ ..] = text else {
+        let (_, rest) = hex_digit(0, 15, text)?;
+        return Err(Stop::At(rest));
+    };
+    match byte_of(*high, *low) {
+        Ok(byte) => Ok((byte, others)),
+        Err(FromHexError::InvalidHexCharacter { index, .. }) => Err(Stop::At(&text[index..])),
+        Err(_) => unreachable!(),
+    }
 }

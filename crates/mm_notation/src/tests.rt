@@ -78,7 +78,7 @@ const ACCEPTED: [(&str, &str); 30] = [
 ];
 
 /// Texts at whose beginning no document stands, and the place of the fault.
-const REFUSED: [(&str, usize); 59] = [
+const REFUSED: [(&str, usize); 62] = [
     ("", 0),
     (" {}", 0),
     ("[]", 0),
@@ -126,6 +126,9 @@ const REFUSED: [(&str, usize); 59] = [
     ("{\"a\":HexData(256,\"\")}", 15),
     ("{\"a\":HexData(0,\"a\")}", 17),
     ("{\"a\":HexData(0,\"0g\")}", 17),
+    ("{\"a\":HexData(0,\"g0\")}", 16),
+    ("{\"a\":HexData(0,\"0", 17),
+    ("{\"a\":HexData(0,\"g", 16),
     ("{\"a\":HexData(0,\"\\u0030\")}", 16),
     ("{\"a\":ObjectId(\"00112233445566778899aab\")}", 38),
     ("{\"a\":ObjectId(\"00112233445566778899aabbc\")}", 39),
@@ -179,15 +182,18 @@ fn a_document_inside_a_text(rt: HostRuntime) -> Result<(), Fail> {
     Ok(())
 }
 
-#[test]
-fn faults_have_their_places(rt: HostRuntime) -> Result<(), Fail> {
-    for (text, place) in REFUSED {
-        match answer(&rt, rt.alloc(), text, 0) {
-            Ok(_) => assert!(rt; false, "read {text}"),
-            Err(fault) => assert_eq!(rt; fault, NotationFault::Notation { place }, "{text}"),
-        }
+fn refuses(rt: &impl Abort, alloc: Global, text: &str, place: usize) {
+    match answer(rt, alloc, text, 0) {
+        Ok(_) => assert!(rt; false, "read {text}"),
+        Err(fault) => assert_eq!(rt; fault, NotationFault::Notation { place }, "{text}"),
     }
-    Ok(())
+}
+
+#[test]
+fn faults_have_their_places(rt: HostRuntime) {
+    for (text, place) in REFUSED {
+        refuses(&rt, rt.alloc(), text, place);
+    }
 }
 
 /// A text of `front` so often, and `back` as often behind `inside`.
@@ -209,17 +215,30 @@ fn nested(
     Ok(text)
 }
 
+/// Reads a text that is a document's as a whole, and says how many levels the
+/// document has.
+fn levels(rt: &impl Abort, alloc: Global, text: &str) -> Result<usize, NotationFault> {
+    let (found, end) = answer(rt, alloc, text, 0)?;
+    assert_eq!(rt; end, text.len());
+    Ok(found.levels())
+}
+
 #[test]
-fn a_hundred_levels(rt: HostRuntime) -> Result<(), Fail> {
+fn levels_of_objects(rt: HostRuntime) -> Result<(), Fail> {
     let most = nested(rt.alloc(), 99, "{\"a\":", "{}", "}")?;
-    let (found, end) = answer(&rt, rt.alloc(), most.as_str(), 0)?;
-    assert_eq!(rt; found.levels(), 100);
-    assert_eq!(rt; end, most.len());
+    assert_eq!(rt; levels(&rt, rt.alloc(), most.as_str())?, 100);
     let deeper = nested(rt.alloc(), 100, "{\"a\":", "{}", "}")?;
-    if let Err(fault) = answer(&rt, rt.alloc(), deeper.as_str(), 0) {
-        assert_eq!(rt; fault, NotationFault::Notation { place: 500 });
-    } else {
-        assert!(rt; false, "read 101 levels");
-    }
+    refuses(&rt, rt.alloc(), deeper.as_str(), 500);
+    Ok(())
+}
+
+#[test]
+fn levels_of_arrays(rt: HostRuntime) -> Result<(), Fail> {
+    let arrays = nested(rt.alloc(), 99, "[", "", "]")?;
+    let most = nested(rt.alloc(), 1, "{\"a\":", arrays.as_str(), "}")?;
+    assert_eq!(rt; levels(&rt, rt.alloc(), most.as_str())?, 100);
+    let arrays = nested(rt.alloc(), 100, "[", "", "]")?;
+    let deeper = nested(rt.alloc(), 1, "{\"a\":", arrays.as_str(), "}")?;
+    refuses(&rt, rt.alloc(), deeper.as_str(), 104);
     Ok(())
 }
