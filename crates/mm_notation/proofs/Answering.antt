@@ -7,7 +7,7 @@ use Rattle.mm_bson.specs.Tree.{Elements}
 use Rattle.mm_notation.specs.Grammar.{IsDocumentText, BeginsDocument}
 use Rattle.mm_notation.specs.Reading.{Read, document_at}
 use Rattle.mm_notation.specs.Answer.{IsFound, IsRefused}
-use Rattle.mm_notation.proofs.Core.{Core, pair_of, Moved, Fine}
+use Rattle.mm_notation.proofs.Core.{pair_of, Moved, Fine}
 use Rattle.mm_notation.proofs.Nests.{document_core}
 
 -- a stretch that is a document's text is read

@@ -113,7 +113,7 @@ pub(crate) fn unsigned(high: u64, text: &[u8]) -> Result<(u64, &[u8]), Stop<'_>>
     natural(high, text)
 }
 
-/// The byte of two hex digits.
+/// The byte whose two hex digits these are.
 fn byte_of(high: u8, low: u8) -> Result<u8, FromHexError>
     ensures { result ≡ pair_value high low 0 }
 {
@@ -121,6 +121,7 @@ fn byte_of(high: u8, low: u8) -> Result<u8, FromHexError>
     Ok(byte)
 }
 
+/// The value of a hex digit.
 fn digit_value(byte: u8) -> Option<u8>
     ensures value { result ≡ hex_digit_value byte }
     ensures small { IfSome result (λ d. d < 16) }

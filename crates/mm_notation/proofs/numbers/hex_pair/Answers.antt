@@ -1,7 +1,6 @@
-use Rattle.std.proofs.Common.{◌≡◌, List, ℕ, ◌-◌, [], ◌∷◌, length, drop, take, Ok, Err, sym, ap, ◌∙◌, subst}
+use Rattle.std.proofs.Common.{List, ℕ, Ok, Err, sym, ap, ◌∙◌, subst}
 use Rattle.std.proofs.lemmas.List.{take_rest}
 use Rattle.hex.specs.declared.error.FromHexError.TheVariants.{InvalidHexCharacter}
-use Rattle.mm_notation.specs.Reading.{digit_at, pair_at}
 use Rattle.mm_notation.proofs.Digits.{Tells, tells, one_digit}
 use Rattle.mm_notation.proofs.numbers.hex_pair.Goals as goal
 

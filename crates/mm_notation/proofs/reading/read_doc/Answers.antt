@@ -1,4 +1,4 @@
-use Rattle.std.proofs.Common.{◌≡◌, ◌+◌, ◌-◌, ◌≤◌, length, drop, take, Ok, Err, refl, sym, ap, ◌∙◌, subst, arith}
+use Rattle.std.proofs.Common.{◌≡◌, ◌-◌, length, drop, take, Ok, Err, sym, ap, ◌∙◌, subst, arith}
 use Rattle.mm_notation.specs.Reading.{document_at, Fails}
 use Rattle.mm_notation.proofs.Answering.{found_from, refused_from, found_short, refused_short, sliced}
 use Rattle.mm_notation.proofs.reading.read_doc.Goals as goal
