@@ -5,6 +5,7 @@ pub mod Inserting
 pub mod Unique
 pub mod Shown
 pub mod First
+pub mod Giving
 pub mod Splits
 pub mod Entries
 pub mod Kept

@@ -3,11 +3,11 @@ use Rattle.std.proofs.Common.{◌≡◌, ℕ, ◌+◌, ◌-◌, ◌<◌, ◌≤�
 use Rattle.std.specs.Prelude.{◌&&◌, ◌||◌, nat_lt, nat_le, ◌==◌}
 use Rattle.std.specs.BTreeMap.{is_at as is_key, insert_entry}
 use Rattle.std.specs.Map.{lookup, remove_entry}
-use Rattle.std.proofs.lemmas.Bool.{and_parts, and_from, le-leb, cond-false}
+use Rattle.std.proofs.lemmas.Bool.{and_parts, and_from, le-leb}
 use Rattle.std.proofs.lemmas.Bool.Decides.{nat_tests}
 use Rattle.std.proofs.lemmas.List.Sums.{sum_by-append, sum_by-cons}
 use Rattle.mm_ranges.specs.Places.{Range, is_before, is_span, is_first, is_spaced, is_within, joined, inserted}
-use Rattle.mm_ranges.specs.Room.{is_at, is_touched, shown}
+use Rattle.mm_ranges.specs.Room.{is_at, is_touched, is_room, without_room}
 use Rattle.mm_ranges.specs.Spans.{Entry, span_of, spans_of, first_at, are_forward, count_of, IsKept, Counts, Joins, IsAlone, places_in, ranges_in, entry_of, range_of}
 use Rattle.mm_ranges.specs.declared.spans.Span.{Span}
 use Rattle.mm_ranges.specs.declared.spans.Tally.{Tally}
@@ -15,6 +15,7 @@ use Rattle.mm_ranges.proofs.Order.{spaced_parts}
 use Rattle.mm_ranges.proofs.Inserting.{is_spaced-inserted}
 use Rattle.mm_ranges.proofs.Splits.{Reaches, touched-append, spaced_after, spaced_without, inserted-joined, inserted-stretched, inserted-alone}
 use Rattle.mm_ranges.proofs.Entries.{key_cmp, AllEnd, IsPast, found_at, all_end, all_end_sooner, entry_new, spans_of-append, are_forward-append, forward_both, spans_before}
+use Rattle.mm_ranges.proofs.Giving.{room_there}
 use Rattle.mm_ranges.proofs.Kept.{Cut, cut_at, touched_reaches, touched_by_first}
 
 end_of : (start last : ℕ) → start ≤ last → start + (last - start) ≡ last
@@ -321,32 +322,33 @@ inserted-inside es w s kept order found within = by_cut (cut_at es (entry_of s) 
         same_span w s a b c = λ i. (same_file w s c i, same_start w s c i, same_len w s a b c i)
 
 -- ---- an empty span is taken out
-pub record LetGo (es fs : List Entry) : Type 0 where
+pub record LetGo (es : List Entry) (file at : ℕ) (fs : List Entry) : Type 0 where
   pub kept : IsKept fs
   pub places_stay : places_in fs ≡ places_in es
   pub ranges_stay : ranges_in fs ≡ ranges_in es
-  pub shown_stays : shown (spans_of fs) ≡ shown (spans_of es)
+  pub spans : spans_of fs ≡ without_room file at (spans_of es)
 
-shown_without : (ps qs : List Range) (r : Range) → r.2 ≡ 0 → shown (ps ++ r ∷ qs) ≡ shown (ps ++ qs)
-shown_without [] qs r e = cond-false (nat_lt 0 r.2) (r ∷ shown qs) (shown qs) (grind (arith, nat_tests, e))
-shown_without (p ∷ ps) qs r e = ap (λ (rs : List Range). cond (nat_lt 0 p.2) (p ∷ rs) rs) (shown_without ps qs r e)
-
-pub let_go : (es : List Entry) (s : Span) (file at : ℕ) → IsKept es → first_at file at es ≡ Some (entry_of s) → s.start ≡ s.end → LetGo es (without s es)
-let_go es s file at kept found empty = by_cut (cut_at es (entry_of s) (file, at, 0) kept found)
+pub let_go : (es : List Entry) (file at : ℕ) → IsKept es → first_at file at es ≡ Some ((file, at), at) → LetGo es file at (remove_entry (is_key (key_cmp (file, at))) es)
+let_go es file at kept found = by_cut (cut_at es ((file, at), at) (file, at, 0) kept found)
   where
-    by_cut : Cut es (entry_of s) (file, at, 0) → LetGo es (without s es)
+    by_cut : Cut es ((file, at), at) (file, at, 0) → LetGo es file at (remove_entry (is_key (key_cmp (file, at))) es)
     by_cut c =
-        let r = span_of (entry_of s) in
-        let none : s.end - s.start ≡ 0 = omega (arith, empty) in
+        let r : Range = (file, at, at - at) in
         record {
           kept = record { forward = c.removed_forward; spaced = ap is_spaced c.removed ∙ spaced_without c.before c.after r c.spaced };
-          places_stay = same_sum (λ (q : Range). q.2) c none;
-          ranges_stay = same_sum count_of c (ap (λ n. cond (nat_lt 0 n) 1 0) none);
-          shown_stays = ap shown c.removed ∙ sym (shown_without c.before c.after r none) ∙ sym (ap shown c.whole);
+          places_stay = same_sum (λ (q : Range). q.2) c (nothing at);
+          ranges_stay = same_sum count_of c (ap (λ n. cond (nat_lt 0 n) 1 0) (nothing at));
+          spans = room_there es ((file, at), at) file at kept found (is_room_itself file at);
         }
       where
-        same_sum : (f : Range → ℕ) (c : Cut es (entry_of s) (file, at, 0)) → f (span_of (entry_of s)) ≡ 0 → sum_by f (spans_of (without s es)) ≡ sum_by f (spans_of es)
+        nothing : (n : ℕ) → n - n ≡ 0
+        nothing n = omega arith
+
+        is_room_itself : (file at : ℕ) → is_room file at (file, at, at - at) ≡ true
+        is_room_itself file at = grind (arith, nat_tests)
+
+        same_sum : (f : Range → ℕ) (c : Cut es ((file, at), at) (file, at, 0)) → f (file, at, at - at) ≡ 0 → sum_by f (spans_of (remove_entry (is_key (key_cmp (file, at))) es)) ≡ sum_by f (spans_of es)
         same_sum f c e =
             let new = ap (sum_by f) c.removed in
-            let old = ap (sum_by f) c.whole ∙ sum_cut f c.before c.after (span_of (entry_of s)) in
+            let old = ap (sum_by f) c.whole ∙ sum_cut f c.before c.after (file, at, at - at) in
             omega (arith, e)

@@ -20,3 +20,17 @@ is_touched (r ∷ rs) file at = is_at file at r || is_touched rs file at
 abbrev pub has_room : List Range → List Range → Bool
 has_room rs [] = true
 has_room rs (s ∷ ss) = is_touched rs s.0 (s.1 + s.2) && has_room rs ss
+
+-- an empty span at the place
+abbrev pub is_room : ℕ → ℕ → Range → Bool
+is_room file at r = r.0 == file && (r.1 == at && r.2 == 0)
+
+-- the spans without it
+abbrev pub without_room : ℕ → ℕ → List Range → List Range
+without_room file at [] = []
+without_room file at (r ∷ rs) = if is_room file at r then without_room file at rs else r ∷ without_room file at rs
+
+-- the spans without the room at the end of each of the ranges
+abbrev pub given_back : List Range → List Range → List Range
+given_back rs [] = rs
+given_back rs (s ∷ ss) = given_back (without_room s.0 (s.1 + s.2) rs) ss

@@ -1,7 +1,7 @@
 // A set of places that can hold room for the ranges of another.
 ghost use Rattle.std.specs.Prelude.{◌≡◌, ℕ, ◌+◌, ◌^◌, ◌<◌, List, [], OnOk, OnErr, IsTrue, ◌↔◌, sum_by};
 ghost use Rattle.mm_ranges.specs.Places.{Range, Covers, is_normal, inserted, merged, weight_of};
-ghost use Rattle.mm_ranges.specs.Room.{shown, has_room, is_touched};
+ghost use Rattle.mm_ranges.specs.Room.{shown, has_room, is_touched, without_room, given_back};
 
 use crate::memory::NoMemory;
 use crate::range_iter::RangeIter;
@@ -123,14 +123,15 @@ impl RoomSet {
 
     // Gives back the memory that is held for a range that ends at a place.
     fn give_back_at(&mut self, file: u32, end: u32)
-        ensures { shown self.new ≡ shown self.old }
+        ensures { self.new ≡ without_room file end self.old }
     {
         let_go(&mut self.starts, file, end);
     }
 
     /// Gives back the memory that is held for a merge with another set. The ranges stay.
     pub fn give_back(&mut self, others: &RangeSet)
-        ensures { shown self.new ≡ shown self.old }
+        ensures room { self.new ≡ given_back self.old others.now }
+        ensures shown { shown self.new ≡ shown self.old }
     {
         for (file, at, len) in others.iter() {
             self.give_back_at(file, at + len);

@@ -2,7 +2,7 @@
 ghost use Rattle.std.specs.Prelude.{◌≡◌, ℕ, ◌+◌, ◌-◌, ◌^◌, ◌<◌, ◌≤◌, List, Some, IfSome, IfNone, OnOk, OnErr, IsTrue, ◌↔◌, nat_le, ◌==◌, ◌&&◌};
 ghost use Rattle.std.specs.Option.{option_map};
 ghost use Rattle.mm_ranges.specs.Places.{Covers, is_before, is_within, inserted};
-ghost use Rattle.mm_ranges.specs.Room.{is_touched, shown};
+ghost use Rattle.mm_ranges.specs.Room.{is_touched, without_room};
 ghost use Rattle.mm_ranges.specs.Spans.{IsKept, Counts, Joins, IsLast, IsAlone, LiesSo, spans_of, first_at, count_of, places_in, ranges_in, range_of, entry_of};
 
 use crate::memory::NoMemory;
@@ -256,13 +256,14 @@ fn is_empty_at(span: Span, file: u32, at: u32) -> bool
 pub(crate) fn let_go(starts: &mut Starts, file: u32, at: u32)
     requires { IsKept starts.old.entries }
     ensures kept { IsKept starts.new.entries }
-    ensures shown { shown (spans_of starts.new.entries) ≡ shown (spans_of starts.old.entries) }
+    ensures spans { spans_of starts.new.entries ≡ without_room file at (spans_of starts.old.entries) }
     ensures places { places_in starts.new.entries ≡ places_in starts.old.entries }
     ensures ranges { ranges_in starts.new.entries ≡ ranges_in starts.old.entries }
 {
-    if let Some(span) = first_from(starts, file, at)
-        && is_empty_at(span, file, at)
-    {
+    let Some(span) = first_from(starts, file, at) else {
+        return;
+    };
+    if is_empty_at(span, file, at) {
         starts.remove(&(file, at));
     }
 }

@@ -16,5 +16,5 @@ returns-clause-coverage c =
     let back : c.take_back.«new».image ≡ s.private = c.take_back.ensures ∙ ap (without_made c.self.inside.made.items) c.lay_back.ensures in
     let t : State = record { shared = s.shared; private = c.take_back.«new».image; made = s.made; opened = shown c.give_back.«new».self; closed = s.closed; is_ready = s.is_ready } in
     let e : t ≡ s =
-    λ i. record { shared = s.shared; private = back i; made = s.made; opened = c.give_back.ensures i; closed = s.closed; is_ready = s.is_ready } in
+    λ i. record { shared = s.shared; private = back i; made = s.made; opened = c.give_back.ensures.shown i; closed = s.closed; is_ready = s.is_ready } in
     subst IsCovered (sym e) (covered_sound s c.self.invariant.draft.sound)
