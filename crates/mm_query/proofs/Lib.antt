@@ -1,0 +1,4 @@
+pub mod Filling
+pub mod Levels
+pub mod Ones
+pub mod Within

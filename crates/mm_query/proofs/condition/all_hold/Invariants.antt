@@ -1,0 +1,13 @@
+use Rattle.std.proofs.Common.{◌≡◌, true, length}
+use Rattle.std.specs.Prelude.{◌↔◌}
+use Rattle.std.specs.declared.cmp.Ordering.TheVariants.{Equal}
+use Rattle.mm_bson.specs.Order.{class, compare}
+use Rattle.mm_bson.specs.View.{tree, elements_of, values_of}
+use Rattle.mm_query.specs.Match.{SomeOf, Equals, is_so, AllHold}
+use Rattle.mm_query.proofs.condition.all_hold.Given as goal
+
+abbrev pub invariant-loop-rest : goal.invariant-loop-rest
+invariant-loop-rest l = AllHold (elements_of l.rest) (tree l.value) l.found ↔ AllHold (elements_of l.operators) (tree l.value) l.found
+
+abbrev pub decreases-loop-rest : goal.decreases-loop-rest
+decreases-loop-rest l = length l.rest

@@ -1,0 +1,77 @@
+//! Filters.
+
+ghost use Rattle.std.specs.Prelude.{◌≡◌, ◌↔◌, IsTrue, IfOk, OnOk, IsErrOf, List, ℕ, Some};
+ghost use Rattle.mm_bson.specs.Tree.{Tree, Elements};
+ghost use Rattle.mm_query.specs.declared.side.Side.TheVariants.{Low, High};
+ghost use Rattle.mm_query.specs.Bounds.{first_equality, key_from, bound, Bound};
+ghost use Rattle.mm_query.specs.Form.{wrong_filter as wrong_filter_in};
+ghost use Rattle.mm_query.specs.Match.{Matches};
+
+use crate::bounds::{Bounds, key_bound};
+use crate::fault::FilterFault;
+use crate::form::wrong_filter;
+use crate::matching::fields_match;
+use crate::memory::NoMemory;
+use crate::side::Side;
+use mm_bson::Doc;
+use mm_keys::KeySpec;
+use std::alloc::Global;
+use std::marker::Model;
+
+/// A filter, seen as its document.
+#[derive(Drop)]
+pub struct Filter {
+    document: Doc,
+}
+
+impl Model for Filter {
+    ghost use Rattle.mm_bson.specs.Tree.{Elements};
+    ghost use Rattle.mm_bson.specs.Code.{elements_code};
+
+    ghost Value = { Elements };
+
+    ghost coded = { elements_code };
+
+    ghost view = { λ f. f.document };
+}
+
+impl Filter {
+    /// The filter that a document is. `BadOperator` with the first wrong
+    /// operator in reading order where it is none.
+    pub fn from_doc(_alloc: Global, doc: &Doc) -> Result<Filter, FilterFault>
+        ensures ok { IfOk result (λ f. f ≡ doc.now) }
+        ensures right { OnOk result (wrong_filter_in doc.now ≡ None) }
+        ensures wrong { (name : List ℕ) → IsErrOf result (FilterFault.BadOperator name) → wrong_filter_in doc.now ≡ Some name }
+    {
+        if let Some(name) = wrong_filter(doc.elements()) {
+            let name = name.copy()?;
+            return Err(FilterFault::BadOperator { name });
+        }
+        let document = doc.copy()?;
+        Ok(Filter { document })
+    }
+
+    /// Whether a document matches the filter.
+    pub fn matches(&self, doc: &Doc) -> bool
+        ensures { IsTrue result ↔ Matches self.now doc.now }
+    {
+        fields_match(self.document.elements(), doc)
+    }
+
+    /// Between which keys by a specification those of the matching documents
+    /// lie, where they have one. An equality on its first path, with a value
+    /// that isn't an array, gives both bounds: the value and, for each further
+    /// place, the first and the last value in its order. Else `$gt` or `$gte`,
+    /// and `$lt` or `$lte` on the first path give one each, and `$in` both: its
+    /// least and its greatest element. The first of them decides. `NoMemory`
+    /// also where a bound would have 2^31 bytes or more.
+    pub fn bounds(&self, alloc: Global, spec: &KeySpec) -> Result<Bounds, NoMemory>
+        ensures between { IfOk result (λ b. Bound self.now spec.now b.low b.high) }
+        ensures equality { (t : Tree) → first_equality spec.now self.now ≡ Some t → IfOk result (λ b. (b.low ≡ Some (key_from Low t spec.now)) × (b.high ≡ Some (key_from High t spec.now))) }
+        ensures exact { IfOk result (λ b. (b.low ≡ bound Low self.now spec.now) × (b.high ≡ bound High self.now spec.now)) }
+    {
+        let low = key_bound(alloc, Side::Low, &self.document, spec)?;
+        let high = key_bound(alloc, Side::High, &self.document, spec)?;
+        Ok(Bounds { low, high })
+    }
+}

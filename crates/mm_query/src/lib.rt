@@ -1,0 +1,36 @@
+//! Filters of documents.
+//!
+//! A `Filter` is seen as its document.
+//! - `Filter::from_doc` takes exactly the documents that are filters. Any other
+//!   it refuses by the first wrong operator in reading order.
+//! - `matches` says whether a document matches. It takes no memory.
+//! - `bounds` gives two keys between which lie those of all matching documents
+//!   that have one. An equality on the first path of the specification makes
+//!   them begin with its value; `$gt`, `$gte`, `$lt` and `$lte` there give one
+//!   side each, and `$in` both.
+//!
+//! Not promised: that memory suffices, and that bounds are the narrowest. In
+//! specs/, Form says which documents are filters, Match when a document matches
+//! one, and Bounds what bounds are.
+#![tactic(auto)]
+
+mod bounds;
+mod condition;
+mod fault;
+mod filter;
+mod form;
+mod laws;
+mod matching;
+mod memory;
+mod operator;
+mod outermost;
+mod side;
+
+pub use bounds::Bounds;
+pub use fault::FilterFault;
+pub use filter::Filter;
+pub use laws::{contraries, empty_filter_matches_all, one_filter_is_itself};
+pub use memory::NoMemory;
+
+#[cfg(test)]
+mod tests;
