@@ -1,27 +1,24 @@
 -- The keys of matching documents lie between the bounds.
-use Rattle.std.proofs.Common.{◌≡◌, ◌≢◌, ℕ, pos, negsuc, Bool, true, false, cond, List, [], Option, Some, None, ◌⊎◌, inl, inr, refl, sym, ap, ◌∙◌, subst}
+use Rattle.std.proofs.Common.{◌≡◌, ◌≢◌, ℕ, pos, negsuc, Bool, true, false, List, [], Option, Some, None, inl, inr, refl, sym, ap, ◌∙◌, subst}
 use Rattle.std.specs.Prelude.{MatchBool, option_map, if◌then◌else◌}
 use Rattle.std.specs.Str.{bytes_eq}
 use Rattle.std.proofs.lemmas.Slice.Eq.{bytes_eq-Decides}
 use Rattle.std.specs.declared.cmp.Ordering.{Ordering}
 use Rattle.std.specs.declared.cmp.Ordering.TheVariants.{Less, Equal, Greater}
 use Rattle.std.specs.Ordering.{ordering_then, ordering_reverse, min_by_ordering}
-use Rattle.std.specs.Cmp.{IsTotalOrder}
 use Rattle.mm_bson.specs.Tree.{Tree, min_key, int32, document, array, max_key, Elements, no_elements, element, Values, no_values, item}
 use Rattle.mm_bson.specs.Order.{class, compare}
 use Rattle.mm_bson.specs.Path.{value_at_path}
 use Rattle.mm_bson.proofs.Orders.{compare_total}
-use Rattle.mm_keys.specs.Key.{keyed, or_null, key, IsArray, HasKey}
+use Rattle.mm_keys.specs.Key.{keyed, key, IsArray, HasKey}
 use Rattle.mm_keys.specs.KeyOrder.{by_sign, key_compare}
 use Rattle.mm_query.specs.declared.operator.Operator.{Operator}
 use Rattle.mm_query.specs.declared.operator.Operator.TheVariants.{Gt, Gte, Lt, Lte, In}
 use Rattle.mm_query.specs.declared.side.Side.{Side}
 use Rattle.mm_query.specs.declared.side.Side.TheVariants.{Low, High}
-use Rattle.mm_query.specs.declared.side.Ask.{Ask}
-use Rattle.mm_query.specs.declared.side.Ask.TheVariants.{Equality, Limit}
 use Rattle.mm_query.specs.Form.{or, operator_of, has_operators, is_and, is_or}
 use Rattle.mm_query.specs.Match.{SomeOf, SomeItem, ItOrItem, Equals, EqualsSome, is_so, Stands, HoldsBy, AllHold, MeetsAt, Matches, AllMatch, SomeMatch, Meets}
-use Rattle.mm_query.specs.Bounds.{is_at, equal_to, from_side, outer, outermost, outermost_in, limit_by, limit_among, limit_in, asked, first_asked, value_bound, turned, extreme, extremes, bound, Within, Bound}
+use Rattle.mm_query.specs.Bounds.{is_at, equal_to, from_side, outer, outermost, outermost_in, limit_by, opposite, tighter, limit_among, limit_in, first_equal, limit_at, value_bound, turned, extreme, extremes, bound, Within, Bound}
 
 -- ---- orders
 
@@ -187,23 +184,35 @@ module _ (w : Tree) (flat : IsArray w → ⊥) where
   one_within side (Some In) u t found h is e = in_within side u t h is e
   one_within _ _ u t found h is e = absurd cc
 
-  among_within : (side : Side) (es : Elements) (t : Tree) (found : Bool) → AllHold es w found → limit_among side es ≡ Some t → from_side side t w ≢ Greater
-  among_within side no_elements t found h is = absurd cc
-  among_within side (element name u es) t found h is = by (limit_by side (operator_of name) u) refl is (λ later. among_within side es t found h.1 later)
-    where
-      by : (o : Option Tree) → limit_by side (operator_of name) u ≡ o → or o (limit_among side es) ≡ Some t → (limit_among side es ≡ Some t → from_side side t w ≢ Greater) → from_side side t w ≢ Greater
-      by None here is later = later is
-      by (Some v) here is later =
-          let same : v ≡ t = cc in
-          one_within side (operator_of name) u t found h.0 (here ∙ ap Some same)
+  -- a limit, where it is there, isn't behind the value
+  abbrev Holds : Side → Option Tree → Type 0
+  Holds side o = (t : Tree) → o ≡ Some t → from_side side t w ≢ Greater
 
-  limit_within : (side : Side) (u t : Tree) (found : Bool) → MeetsAt u w found → limit_in side u ≡ Some t → from_side side t w ≢ Greater
-  limit_within side (document es) t found h is = by (has_operators es) h is
+  none_holds : (side : Side) → Holds side None
+  none_holds side t is = absurd cc
+
+  tighter_holds : (side : Side) (best more : Option Tree) → Holds side best → Holds side more → Holds side (tighter side best more)
+  tighter_holds side None more h k = k
+  tighter_holds side (Some t) None h k = h
+  tighter_holds side (Some t) (Some u) h k = by (from_side (opposite side) t u)
     where
-      by : (b : Bool) → MatchBool b (AllHold es w found) (Equals (document es) w) → (if b then limit_among side es else None) ≡ Some t → from_side side t w ≢ Greater
-      by true h is = among_within side es t found h is
-      by false h is = absurd cc
-  limit_within side _ t found h is = absurd cc
+      by : (o : Ordering) → Holds side (Some (min_by_ordering o t u))
+      by Less = h
+      by Equal = h
+      by Greater = k
+
+  among_within : (side : Side) (best : Option Tree) (es : Elements) (found : Bool) → Holds side best → AllHold es w found → Holds side (limit_among side best es)
+  among_within side best no_elements found holds h = holds
+  among_within side best (element name u es) found holds h =
+      among_within side (tighter side best (limit_by side (operator_of name) u)) es found (tighter_holds side best (limit_by side (operator_of name) u) holds (λ t is. one_within side (operator_of name) u t found h.0 is)) h.1
+
+  limit_within : (side : Side) (best : Option Tree) (u : Tree) (found : Bool) → Holds side best → MeetsAt u w found → Holds side (limit_in side best u)
+  limit_within side best (document es) found holds h = by (has_operators es) h
+    where
+      by : (b : Bool) → MatchBool b (AllHold es w found) (Equals (document es) w) → Holds side (if b then limit_among side best es else best)
+      by true h = among_within side best es found holds h
+      by false h = holds
+  limit_within side best _ found holds h = holds
 
   equal_within : (u t : Tree) (found : Bool) → MeetsAt u w found → equal_to u ≡ Some t → compare w t ≡ Equal
   equal_within (array vs) t found h is = absurd cc
@@ -218,49 +227,57 @@ module _ (w : Tree) (flat : IsArray w → ⊥) where
       let same : u ≡ t = cc in
       sym (ap (compare w) same) ∙ itself (λ v. compare v u ≡ Equal) w flat h
 
--- what was asked of a condition holds of the value
-abbrev Holds : Ask → Tree → Tree → Type 0
-Holds Equality t w = compare w t ≡ Equal
-Holds (Limit side) t w = from_side side t w ≢ Greater
-
-condition_holds : (ask : Ask) (u t w : Tree) (found : Bool) → (IsArray w → ⊥) → MeetsAt u w found → asked ask u ≡ Some t → Holds ask t w
-condition_holds Equality u t w found flat h is = equal_within w flat u t found h is
-condition_holds (Limit side) u t w found flat h is = limit_within w flat side u t found h is
-
 -- ---- fields of a filter
 
-module _ (ask : Ask) (path : List ℕ) (d : Elements) (flat : IsArray (keyed path d) → ⊥) where
-  field_holds : (name : List ℕ) (u t : Tree) → MatchBool (is_and name) (AllMatch u d) (MatchBool (is_or name) (SomeMatch u d) (Meets u (value_at_path name d)))
-      → (if is_at path name then asked ask u else None) ≡ Some t → Holds ask t (keyed path d)
-  field_holds name u t h is = by (is_and name) (is_or name) (bytes_eq name path) refl h is
+module _ (path : List ℕ) (d : Elements) (flat : IsArray (keyed path d) → ⊥) where
+  field_equal : (name : List ℕ) (u t : Tree) → MatchBool (is_and name) (AllMatch u d) (MatchBool (is_or name) (SomeMatch u d) (Meets u (value_at_path name d)))
+      → (if is_at path name then equal_to u else None) ≡ Some t → compare (keyed path d) t ≡ Equal
+  field_equal name u t h is = by (is_and name) (is_or name) (bytes_eq name path) refl h is
     where
       by : (a o b : Bool) → bytes_eq name path ≡ b → MatchBool a (AllMatch u d) (MatchBool o (SomeMatch u d) (Meets u (value_at_path name d)))
-          → (if (if a then false else (if o then false else b)) then asked ask u else None) ≡ Some t → Holds ask t (keyed path d)
+          → (if (if a then false else (if o then false else b)) then equal_to u else None) ≡ Some t → compare (keyed path d) t ≡ Equal
       by true o b same h is = absurd cc
       by false true b same h is = absurd cc
       by false false false same h is = absurd cc
       by false false true same h is =
           let here : name ≡ path = (bytes_eq-Decides name path).0 same in
-          condition_holds ask u t (keyed path d) _ flat (subst (λ p. Meets u (value_at_path p d)) here h) is
+          equal_within (keyed path d) flat u t _ (subst (λ p. Meets u (value_at_path p d)) here h) is
 
-  first_holds : (filter : Elements) (t : Tree) → Matches filter d → first_asked ask path filter ≡ Some t → Holds ask t (keyed path d)
-  first_holds no_elements t h is = absurd cc
-  first_holds (element name u es) t h is = by (if is_at path name then asked ask u else None) refl is (λ later. first_holds es t h.1 later)
+  first_equal_holds : (filter : Elements) (t : Tree) → Matches filter d → first_equal path filter ≡ Some t → compare (keyed path d) t ≡ Equal
+  first_equal_holds no_elements t h is = absurd cc
+  first_equal_holds (element name u es) t h is = by (if is_at path name then equal_to u else None) refl is (λ later. first_equal_holds es t h.1 later)
     where
-      by : (o : Option Tree) → (if is_at path name then asked ask u else None) ≡ o → or o (first_asked ask path es) ≡ Some t → (first_asked ask path es ≡ Some t → Holds ask t (keyed path d)) → Holds ask t (keyed path d)
+      by : (o : Option Tree) → (if is_at path name then equal_to u else None) ≡ o → or o (first_equal path es) ≡ Some t → (first_equal path es ≡ Some t → compare (keyed path d) t ≡ Equal) → compare (keyed path d) t ≡ Equal
       by None here is later = later is
       by (Some v) here is later =
           let same : v ≡ t = cc in
-          field_holds name u t h.0 (here ∙ ap Some same)
+          field_equal name u t h.0 (here ∙ ap Some same)
+
+  field_limit : (side : Side) (best : Option Tree) (name : List ℕ) (u : Tree) → Holds (keyed path d) flat side best
+      → MatchBool (is_and name) (AllMatch u d) (MatchBool (is_or name) (SomeMatch u d) (Meets u (value_at_path name d))) → Holds (keyed path d) flat side (if is_at path name then limit_in side best u else best)
+  field_limit side best name u holds h = by (is_and name) (is_or name) (bytes_eq name path) refl h
+    where
+      by : (a o b : Bool) → bytes_eq name path ≡ b → MatchBool a (AllMatch u d) (MatchBool o (SomeMatch u d) (Meets u (value_at_path name d)))
+          → Holds (keyed path d) flat side (if (if a then false else (if o then false else b)) then limit_in side best u else best)
+      by true o b same h = holds
+      by false true b same h = holds
+      by false false false same h = holds
+      by false false true same h =
+          let here : name ≡ path = (bytes_eq-Decides name path).0 same in
+          limit_within (keyed path d) flat side best u _ holds (subst (λ p. Meets u (value_at_path p d)) here h)
+
+  limit_holds : (side : Side) (best : Option Tree) (filter : Elements) → Holds (keyed path d) flat side best → Matches filter d → Holds (keyed path d) flat side (limit_at side path best filter)
+  limit_holds side best no_elements holds h = holds
+  limit_holds side best (element name u es) holds h = limit_holds side (if is_at path name then limit_in side best u else best) es (field_limit side best name u holds h.0) h.1
 
 value_within : (side : Side) (path : List ℕ) (filter d : Elements) (t : Tree) → (IsArray (keyed path d) → ⊥) → Matches filter d → value_bound side path filter ≡ Some t → from_side side t (keyed path d) ≢ Greater
-value_within side path filter d t flat h is = by (first_asked Equality path filter) refl is
+value_within side path filter d t flat h is = by (first_equal path filter) refl is
   where
-    by : (o : Option Tree) → first_asked Equality path filter ≡ o → or o (first_asked (Limit side) path filter) ≡ Some t → from_side side t (keyed path d) ≢ Greater
-    by None here is = first_holds (Limit side) path d flat filter t h is
+    by : (o : Option Tree) → first_equal path filter ≡ o → or o (limit_at side path None filter) ≡ Some t → from_side side t (keyed path d) ≢ Greater
+    by None here is = limit_holds path d flat side None filter (none_holds (keyed path d) flat side) h t is
     by (Some v) here is =
         let same : v ≡ t = cc in
-        equal_pair side t (keyed path d) (first_holds Equality path d flat filter t h (here ∙ ap Some same))
+        equal_pair side t (keyed path d) (first_equal_holds path d flat filter t h (here ∙ ap Some same))
 
 -- ---- keys
 

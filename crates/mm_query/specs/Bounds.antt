@@ -1,5 +1,5 @@
 -- Between which keys those of the matching documents lie (MongoDB 2.6, index bounds).
-use Rattle.std.specs.Prelude.{◌≡◌, ◌≢◌, ℕ, negsuc, Bool, true, false, List, [], Option, Some, None, option_map, if◌then◌else◌}
+use Rattle.std.specs.Prelude.{◌≢◌, ℕ, negsuc, Bool, false, List, [], Option, Some, None, option_map, if◌then◌else◌}
 use Rattle.std.specs.Str.{bytes_eq}
 use Rattle.std.specs.declared.cmp.Ordering.{Ordering}
 use Rattle.std.specs.declared.cmp.Ordering.TheVariants.{Greater}
@@ -8,8 +8,6 @@ use Rattle.mm_query.specs.declared.operator.Operator.{Operator}
 use Rattle.mm_query.specs.declared.operator.Operator.TheVariants.{Gt, Gte, Lt, Lte, In}
 use Rattle.mm_query.specs.declared.side.Side.{Side}
 use Rattle.mm_query.specs.declared.side.Side.TheVariants.{Low, High}
-use Rattle.mm_query.specs.declared.side.Ask.{Ask}
-use Rattle.mm_query.specs.declared.side.Ask.TheVariants.{Equality, Limit}
 use Rattle.mm_bson.specs.Tree.{Tree, min_key, int32, document, array, max_key, Elements, no_elements, element, Values, no_values, item}
 use Rattle.mm_bson.specs.Order.{compare}
 use Rattle.mm_keys.specs.Key.{key, HasKey}
@@ -54,30 +52,38 @@ limit_by High (Some Lte) u = Some u
 limit_by side (Some In) u = outermost_in side u
 limit_by side operator u = None
 
-abbrev pub limit_among : Side → Elements → Option Tree
-limit_among side no_elements = None
-limit_among side (element name u es) = or (limit_by side (operator_of name) u) (limit_among side es)
-
-abbrev pub limit_in : Side → Tree → Option Tree
-limit_in side (document es) = if has_operators es then limit_among side es else None
-limit_in side _ = None
-
-abbrev pub asked : Ask → Tree → Option Tree
-asked Equality t = equal_to t
-asked (Limit side) t = limit_in side t
-
--- what the first field at a path has of this, at the top of a filter
-abbrev pub first_asked : Ask → List ℕ → Elements → Option Tree
-first_asked ask path no_elements = None
-first_asked ask path (element name t es) = or (if is_at path name then asked ask t else None) (first_asked ask path es)
-
--- between which values those at a path lie: an equality goes before a limit
-abbrev pub value_bound : Side → List ℕ → Elements → Option Tree
-value_bound side path filter = or (first_asked Equality path filter) (first_asked (Limit side) path filter)
-
 abbrev pub opposite : Side → Side
 opposite Low = High
 opposite High = Low
+
+-- of two limits from a side the one that leaves less
+abbrev pub tighter : Side → Option Tree → Option Tree → Option Tree
+tighter side None more = more
+tighter side (Some t) None = Some t
+tighter side (Some t) (Some u) = Some (outer (opposite side) t u)
+
+-- the tightest of a limit and those that these operators give
+abbrev pub limit_among : Side → Option Tree → Elements → Option Tree
+limit_among side best no_elements = best
+limit_among side best (element name u es) = limit_among side (tighter side best (limit_by side (operator_of name) u)) es
+
+abbrev pub limit_in : Side → Option Tree → Tree → Option Tree
+limit_in side best (document es) = if has_operators es then limit_among side best es else best
+limit_in side best _ = best
+
+-- the value of the first equality at a path, at the top of a filter
+abbrev pub first_equal : List ℕ → Elements → Option Tree
+first_equal path no_elements = None
+first_equal path (element name t es) = or (if is_at path name then equal_to t else None) (first_equal path es)
+
+-- the tightest of a limit and those at a path, at the top of a filter
+abbrev pub limit_at : Side → List ℕ → Option Tree → Elements → Option Tree
+limit_at side path best no_elements = best
+limit_at side path best (element name t es) = limit_at side path (if is_at path name then limit_in side best t else best) es
+
+-- between which values those at a path lie: an equality goes before a limit
+abbrev pub value_bound : Side → List ℕ → Elements → Option Tree
+value_bound side path filter = or (first_equal path filter) (limit_at side path None filter)
 
 -- by -1 the greater values come first
 abbrev pub turned : Tree → Side → Side
@@ -105,7 +111,7 @@ bound side filter (element path sign spec) = option_map (λ t. element [] t (ext
 -- the value of the first equality on the first path
 abbrev pub first_equality : Elements → Elements → Option Tree
 first_equality no_elements filter = None
-first_equality (element path sign spec) filter = first_asked Equality path filter
+first_equality (element path sign spec) filter = first_equal path filter
 
 -- a key isn't beyond a bound that is there
 abbrev pub Within : Side → Elements → Option Elements → Elements → Type 0

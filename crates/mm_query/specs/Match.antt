@@ -1,5 +1,5 @@
 -- When a document matches a filter (MongoDB 2.6, query and comparison operators).
-use Rattle.std.specs.Prelude.{◌≡◌, ℕ, Bool, true, false, List, Option, Some, None, is_some, ◌⊎◌, MatchBool}
+use Rattle.std.specs.Prelude.{◌≡◌, Bool, true, false, Option, Some, None, is_some, ◌⊎◌, MatchBool}
 use Rattle.std.specs.declared.cmp.Ordering.{Ordering}
 use Rattle.std.specs.declared.cmp.Ordering.TheVariants.{Less, Equal, Greater}
 use Rattle.mm_query.specs.declared.operator.Operator.{Operator}

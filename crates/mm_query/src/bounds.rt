@@ -4,14 +4,14 @@ ghost use Rattle.std.specs.Prelude.{◌≡◌, ◌<◌, [], Option, None, IfOk, 
 ghost use Rattle.mm_bson.specs.Tree.{tree_depth, append, no_elements, element};
 ghost use Rattle.mm_bson.specs.View.{tree, elements_of};
 ghost use Rattle.mm_query.specs.Form.{operator_of as operator_by};
-ghost use Rattle.mm_query.specs.Bounds.{is_at as is_at_path, equal_to as equal_to_in, limit_by, limit_among as limit_among_in, limit_in as limit_in_condition, asked as asked_of, first_asked as first_asked_at, value_bound as value_bound_at, turned as turned_by, extreme as extreme_of, extremes, bound};
+ghost use Rattle.mm_query.specs.Bounds.{is_at as is_at_path, equal_to as equal_to_in, limit_by, limit_among as limit_among_in, limit_in as limit_in_condition, first_equal as first_equal_at, limit_at as limit_at_path, value_bound as value_bound_at, turned as turned_by, extreme as extreme_of, extremes, bound};
 
 use crate::condition::has_operators;
 use crate::matching::{is_and, is_or};
 use crate::memory::NoMemory;
 use crate::operator::{Operator, operator_of};
-use crate::outermost::outermost_in;
-use crate::side::{Ask, Side};
+use crate::outermost::{outermost_in, tighter};
+use crate::side::Side;
 use mm_bson::{Doc, Element, Text, Value};
 use mm_keys::KeySpec;
 use std::alloc::Global;
@@ -54,54 +54,51 @@ fn limit_of(side: Side, field: &Element) -> Option<&Value>
     }
 }
 
-fn limit_among(side: Side, operators: &[Element]) -> Option<&Value>
-    ensures { option_map (λ t. tree t.now) result ≡ limit_among_in side (elements_of operators.now) }
+/// The tightest of a limit and those that operators give.
+fn limit_among<'a>(
+    side: Side,
+    limit: Option<&'a Value>,
+    operators: &'a [Element],
+) -> Option<&'a Value>
+    ensures { option_map (λ t. tree t.now) result ≡ limit_among_in side (option_map (λ t. tree t.now) limit.entry) (elements_of operators.now) }
 {
+    let mut best = limit;
     let mut rest = operators;
     while let [first, others @ ..] = rest {
-        if let Some(limit) = limit_of(side, first) {
-            return Some(limit);
-        }
+        best = tighter(side, best, limit_of(side, first));
         rest = others;
     }
-    None
+    best
 }
 
-fn limit_in(side: Side, condition: &Value) -> Option<&Value>
-    ensures { option_map (λ t. tree t.now) result ≡ limit_in_condition side (tree condition.now) }
+fn limit_in<'a>(side: Side, limit: Option<&'a Value>, condition: &'a Value) -> Option<&'a Value>
+    ensures { option_map (λ t. tree t.now) result ≡ limit_in_condition side (option_map (λ t. tree t.now) limit.entry) (tree condition.now) }
 {
     match condition {
-        Value::Document(doc) if has_operators(doc.elements()) => limit_among(side, doc.elements()),
-        _ => None,
+        Value::Document(doc) if has_operators(doc.elements()) => {
+            limit_among(side, limit, doc.elements())
+        }
+        _ => limit,
     }
 }
 
-fn asked(ask: Ask, condition: &Value) -> Option<&Value>
-    ensures { option_map (λ t. tree t.now) result ≡ asked_of ask (tree condition.now) }
-{
-    match ask {
-        Ask::Equality => equal_to(condition),
-        Ask::Limit(side) => limit_in(side, condition),
-    }
-}
-
-fn asked_at<'a>(ask: Ask, path: &[u8], field: &'a Element) -> Option<&'a Value>
-    ensures { option_map (λ t. tree t.now) result ≡ (if is_at_path path.now field.now.name then asked_of ask (tree field.now.value) else None) }
+fn equal_at<'a>(path: &[u8], field: &'a Element) -> Option<&'a Value>
+    ensures { option_map (λ t. tree t.now) result ≡ (if is_at_path path.now field.now.name then equal_to_in (tree field.now.value) else None) }
 {
     if is_at(path, field.name.as_bytes()) {
-        asked(ask, &field.value)
+        equal_to(&field.value)
     } else {
         None
     }
 }
 
-/// What the first field at a path has of this.
-fn first_asked<'a>(ask: Ask, path: &[u8], fields: &'a [Element]) -> Option<&'a Value>
-    ensures { option_map (λ t. tree t.now) result ≡ first_asked_at ask path.now (elements_of fields.now) }
+/// The value of the first equality at a path.
+fn first_equal<'a>(path: &[u8], fields: &'a [Element]) -> Option<&'a Value>
+    ensures { option_map (λ t. tree t.now) result ≡ first_equal_at path.now (elements_of fields.now) }
 {
     let mut rest = fields;
     while let [first, others @ ..] = rest {
-        if let Some(value) = asked_at(ask, path, first) {
+        if let Some(value) = equal_at(path, first) {
             return Some(value);
         }
         rest = others;
@@ -109,13 +106,41 @@ fn first_asked<'a>(ask: Ask, path: &[u8], fields: &'a [Element]) -> Option<&'a V
     None
 }
 
+fn with_field<'a>(
+    side: Side,
+    path: &[u8],
+    limit: Option<&'a Value>,
+    field: &'a Element,
+) -> Option<&'a Value>
+    ensures { option_map (λ t. tree t.now) result ≡ (if is_at_path path.now field.now.name then limit_in_condition side (option_map (λ t. tree t.now) limit.entry) (tree field.now.value) else option_map (λ t. tree t.now) limit.entry) }
+{
+    if is_at(path, field.name.as_bytes()) {
+        limit_in(side, limit, &field.value)
+    } else {
+        limit
+    }
+}
+
+/// The tightest limit at a path.
+fn limit_at<'a>(side: Side, path: &[u8], fields: &'a [Element]) -> Option<&'a Value>
+    ensures { option_map (λ t. tree t.now) result ≡ limit_at_path side path.now None (elements_of fields.now) }
+{
+    let mut best = None;
+    let mut rest = fields;
+    while let [first, others @ ..] = rest {
+        best = with_field(side, path, best, first);
+        rest = others;
+    }
+    best
+}
+
 /// The bound of the values at a path: an equality goes before a limit.
 fn value_bound<'a>(side: Side, path: &[u8], fields: &'a [Element]) -> Option<&'a Value>
     ensures { option_map (λ t. tree t.now) result ≡ value_bound_at side path.now (elements_of fields.now) }
 {
-    match first_asked(Ask::Equality, path, fields) {
+    match first_equal(path, fields) {
         Some(value) => Some(value),
-        None => first_asked(Ask::Limit(side), path, fields),
+        None => limit_at(side, path, fields),
     }
 }
 
@@ -123,9 +148,8 @@ fn value_bound<'a>(side: Side, path: &[u8], fields: &'a [Element]) -> Option<&'a
 fn turned(sign: &Value, side: Side) -> Side
     ensures { result ≡ turned_by (tree sign.now) side }
 {
-    match (sign, side) {
-        (Value::Int32(number), Side::Low) if *number < 0 => Side::High,
-        (Value::Int32(number), Side::High) if *number < 0 => Side::Low,
+    match sign {
+        Value::Int32(number) if *number < 0 => side.opposite(),
         _ => side,
     }
 }

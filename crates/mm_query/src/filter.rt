@@ -63,8 +63,8 @@ impl Filter {
     /// that isn't an array, gives both bounds: the value and, for each further
     /// place, the first and the last value in its order. Else `$gt` or `$gte`,
     /// and `$lt` or `$lte` on the first path give one each, and `$in` both: its
-    /// least and its greatest element. The first of them decides. `NoMemory`
-    /// also where a bound would have 2^31 bytes or more.
+    /// least and its greatest element. The tightest of each side counts.
+    /// `NoMemory` also where a bound would have 2^31 bytes or more.
     pub fn bounds(&self, alloc: Global, spec: &KeySpec) -> Result<Bounds, NoMemory>
         ensures between { IfOk result (λ b. Bound self.now spec.now b.low b.high) }
         ensures equality { (t : Tree) → first_equality spec.now self.now ≡ Some t → IfOk result (λ b. (b.low ≡ Some (key_from Low t spec.now)) × (b.high ≡ Some (key_from High t spec.now))) }

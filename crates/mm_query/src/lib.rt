@@ -7,7 +7,7 @@
 //! - `bounds` gives two keys between which lie those of all matching documents
 //!   that have one. An equality on the first path of the specification makes
 //!   them begin with its value; `$gt`, `$gte`, `$lt` and `$lte` there give one
-//!   side each, and `$in` both.
+//!   side each, and `$in` both, of which the tightest counts.
 //!
 //! Not promised: that memory suffices, and that bounds are the narrowest. In
 //! specs/, Form says which documents are filters, Match when a document matches

@@ -1,8 +1,8 @@
-//! The least and the greatest of several values.
+//! The least and the greatest of several values, and the tighter of two limits.
 
 ghost use Rattle.std.specs.Prelude.{◌≡◌, option_map};
 ghost use Rattle.mm_bson.specs.View.{tree, values_of};
-ghost use Rattle.mm_query.specs.Bounds.{from_side as from_side_by, outer as outer_of, outermost as outermost_of, outermost_in as outermost_inside};
+ghost use Rattle.mm_query.specs.Bounds.{from_side as from_side_by, outer as outer_of, outermost as outermost_of, outermost_in as outermost_inside, tighter as tighter_of};
 
 use crate::side::Side;
 use mm_bson::{Value, cmp};
@@ -50,5 +50,20 @@ pub(crate) fn outermost_in(side: Side, array: &Value) -> Option<&Value>
             [first, others @ ..] => Some(outermost(side, first, others)),
         },
         _ => None,
+    }
+}
+
+/// Of two limits from a side the one that leaves less.
+pub(crate) fn tighter<'a>(
+    side: Side,
+    best: Option<&'a Value>,
+    more: Option<&'a Value>,
+) -> Option<&'a Value>
+    ensures { option_map (λ t. tree t.now) result ≡ tighter_of side (option_map (λ t. tree t.now) best.entry) (option_map (λ t. tree t.now) more.entry) }
+{
+    match (best, more) {
+        (None, _) => more,
+        (_, None) => best,
+        (Some(value), Some(other)) => Some(outer(side.opposite(), value, other)),
     }
 }

@@ -1,4 +1,7 @@
-//! What is asked of a filter for bounds.
+//! The two sides of bounds.
+
+ghost use Rattle.std.specs.Prelude.{◌≡◌};
+ghost use Rattle.mm_query.specs.Bounds.{opposite as opposite_of};
 
 /// One of two bounds.
 #[derive(Clone, Copy, Debug, PartialEq, Eq)]
@@ -7,10 +10,13 @@ pub(crate) enum Side {
     High,
 }
 
-/// What a condition may have: a value that the one at its path is equal to, or
-/// one that bounds it on a side.
-#[derive(Clone, Copy, Debug, PartialEq, Eq)]
-pub(crate) enum Ask {
-    Equality,
-    Limit(Side),
+impl Side {
+    pub(crate) fn opposite(self) -> Side
+        ensures { result ≡ opposite_of self }
+    {
+        match self {
+            Side::Low => Side::High,
+            Side::High => Side::Low,
+        }
+    }
 }

@@ -1,9 +1,7 @@
-use Rattle.std.proofs.Common.{◌≡◌, true, length}
+use Rattle.std.proofs.Common.{length}
 use Rattle.std.specs.Prelude.{◌↔◌}
-use Rattle.std.specs.declared.cmp.Ordering.TheVariants.{Equal}
-use Rattle.mm_bson.specs.Order.{class, compare}
-use Rattle.mm_bson.specs.View.{tree, elements_of, values_of}
-use Rattle.mm_query.specs.Match.{SomeOf, Equals, is_so, AllHold}
+use Rattle.mm_bson.specs.View.{tree, values_of}
+use Rattle.mm_query.specs.Match.{SomeOf, Equals}
 use Rattle.mm_query.proofs.condition.equals_one.Given as goal
 
 abbrev pub invariant-loop-rest : goal.invariant-loop-rest

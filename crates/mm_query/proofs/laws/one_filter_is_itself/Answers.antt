@@ -1,4 +1,3 @@
-use Rattle.std.proofs.Common.{inl, inr}
 use Rattle.mm_query.proofs.Ones.{and_one, or_one}
 use Rattle.mm_query.proofs.laws.one_filter_is_itself.Goals as goal
 
