@@ -148,29 +148,20 @@ const NODE_PARTS: [(usize, &[u8]); 13] = [
     (500, b"\x01\0\0\0\xff\xff\xff\xff"),
 ];
 
-#[test]
-fn spells_nodes(rt: HostRuntime) -> Result<(), Fail> {
-    let head = NodeHead {
-        hash: 0x08197e55,
-        name: Name::new(b"a.b").ok_or("no name")?.padded(),
-    };
+fn place(ofs: i32) -> DiskLoc {
+    DiskLoc { file: 0, ofs }
+}
+
+// The details of a new collection with one index.
+fn new_details() -> Details {
     let mut indexes = [IndexPair::NULL; INDEX_PAIRS];
     indexes[0] = IndexPair {
-        head: DiskLoc {
-            file: 0,
-            ofs: 24752,
-        },
-        info: DiskLoc { file: 0, ofs: 8368 },
+        head: place(24752),
+        info: place(8368),
     };
-    let mut details = Details {
-        first_extent: DiskLoc {
-            file: 0,
-            ofs: 40960,
-        },
-        last_extent: DiskLoc {
-            file: 0,
-            ofs: 40960,
-        },
+    Details {
+        first_extent: place(40960),
+        last_extent: place(40960),
         deleted: [DiskLoc::NULL; DELETED_LISTS],
         datasize: 0,
         nrecords: 0,
@@ -189,20 +180,21 @@ fn spells_nodes(rt: HostRuntime) -> Result<(), Fail> {
         extra_offset: 0,
         index_builds: 0,
         user_flags: COLLECTION_FLAGS,
+    }
+}
+
+#[test]
+fn spells_nodes(rt: HostRuntime) -> Result<(), Fail> {
+    let head = NodeHead {
+        hash: 0x08197e55,
+        name: Name::new(b"a.b").ok_or("no name")?.padded(),
     };
+    let mut details = new_details();
     let mut bytes = [0xaa; NODE_LEN];
     put_node_head(&mut bytes, 0, &head);
     put_details(&mut bytes, NODE_HEAD_LEN, &details);
     put_counts(&mut bytes, NODE_HEAD_LEN, 32, 2);
-    put_list_head(
-        &mut bytes,
-        NODE_HEAD_LEN,
-        18,
-        DiskLoc {
-            file: 0,
-            ofs: 41168,
-        },
-    );
+    put_list_head(&mut bytes, NODE_HEAD_LEN, 18, place(41168));
     for (at, part) in NODE_PARTS {
         let found = bytes.get(at..).ok_or("outside")?;
         assert!(rt; found.starts_with(part), "at {at}");
@@ -213,10 +205,7 @@ fn spells_nodes(rt: HostRuntime) -> Result<(), Fail> {
     assert_eq!(rt; read_node_head(&bytes, 0), head);
     details.datasize = 32;
     details.nrecords = 2;
-    details.deleted[18] = DiskLoc {
-        file: 0,
-        ofs: 41168,
-    };
+    details.deleted[18] = place(41168);
     assert_eq!(rt; read_details(&bytes, NODE_HEAD_LEN), details);
     put_index_pair(&mut bytes, 324, &IndexPair::NULL);
     assert_eq!(rt; read_index_pair(&bytes, 324), IndexPair::NULL);
