@@ -1,20 +1,19 @@
 -- The written form is one of the texts of its document.
-use Rattle.std.proofs.Common.{◌≡◌, ℕ, zero, suc, ◌+◌, ◌-◌, ◌*◌, ◌/◌, ◌%◌, ◌^◌, ◌<◌, ◌≤◌, ◌==◌, ◌||◌, ◌⊎◌, inl, inr, Bool, true, false, List, [], ◌∷◌, ◌++◌, length, map, slice_index, Option, Some, None, append_assoc, append-nil, refl, sym, ap, ◌∙◌, subst, arith, pos}
-use Rattle.std.specs.Prelude.{if◌then◌else◌, nat_le, nat_lt, ◌≢◌, ℤ, negsuc, codes, flat_map}
+use Rattle.std.proofs.Common.{◌≡◌, ℕ, suc, ◌+◌, ◌*◌, ◌/◌, ◌%◌, ◌<◌, ◌==◌, ◌||◌, inl, inr, true, false, List, [], ◌∷◌, ◌++◌, slice_index, Some, append_assoc, refl, sym, ap, subst, arith, pos}
+use Rattle.std.specs.Prelude.{nat_le, nat_lt, ℤ, negsuc, codes, flat_map}
 use Rattle.std.specs.List.{concat}
 use Rattle.std.specs.Int.{w32, w64}
 use Rattle.std.specs.Int.RustNames.{FitsSigned}
 use Rattle.std.specs.Fmt.{decimal, signed_decimal}
 use Rattle.std.specs.Str.{is_utf8}
-use Rattle.std.specs.Char.{encode_utf8}
 use Rattle.std.specs.Char.Utf16.{is_high_surrogate, is_low_surrogate}
 use Rattle.std.proofs.lemmas.Bool.{eqb-true, eqb-false, or_cases, or_parts, ltb-true, ltb-false, lt-ltb, lt-leb, and_left, cases_Bool, both_ways}
 use Rattle.std.proofs.lemmas.Str.{encode_ascii}
-use Rattle.hex.specs.Hex.{hex_digit_value, encode_lower, encode_with, lower_digits, IsBytes}
+use Rattle.hex.specs.Hex.{encode_lower, encode_with, lower_digits, IsBytes}
 use Rattle.hex.proofs.HexLemmas.{IsDigits-lower_digits}
 use Rattle.mm_bson.specs.Tree.{Tree, min_key, null, int32, int64, string, document, array, binary, object_id, boolean, date, timestamp, max_key, Elements, no_elements, element, Values, no_values, item, depth}
-use Rattle.mm_bson.specs.Spelling.{IsValue, AreElements, AreValues, HasNoZero}
-use Rattle.mm_notation.specs.Grammar.{◌·◌, Word, Spaces, Mark, Integer, Quoted, Each, HexDigit, HexPair, HexDigits, Digits16, escaped, Escape, Piece, Inside, String, Name, Opening, Value, Array, MoreValues, Object, MoreMembers, IsDocumentText}
+use Rattle.mm_bson.specs.Spelling.{IsValue, AreElements, AreValues}
+use Rattle.mm_notation.specs.Grammar.{◌·◌, Mark, Integer, Quoted, Each, HexDigits, Digits16, escaped, Piece, Inside, String, Opening, Value, Array, MoreValues, Object, MoreMembers, IsDocumentText}
 use Rattle.mm_notation.specs.Written.{written_byte, written_string, written_hex, is_small, written_value, written_array, more_values, written, more_members, HoldsBytes, AllHoldBytes, EachHoldsBytes}
 
 mark_form : (b : ℕ) → Mark b (b ∷ [])

@@ -1,16 +1,15 @@
 -- Bytes, words, spaces, integers and hex digits as readers of their languages.
-use Rattle.std.proofs.Common.{◌≡◌, ℕ, zero, suc, ◌+◌, ◌-◌, ◌*◌, ◌/◌, ◌%◌, ◌^◌, ◌<◌, ◌≤◌, ◌==◌, ◌&&◌, ◌||◌, ◌⊎◌, inl, inr, Bool, true, false, List, [], ◌∷◌, ◌++◌, length, slice_index, replicate, Option, Some, None, Result, Ok, Err, append_assoc, append-nil, refl, sym, ap, ◌∙◌, subst, arith, pos}
-use Rattle.std.specs.Prelude.{if◌then◌else◌, nat_le, nat_lt, ◌≢◌, ℤ, negsuc}
+use Rattle.std.proofs.Common.{◌≡◌, ℕ, zero, suc, ◌+◌, ◌-◌, ◌*◌, ◌/◌, ◌%◌, ◌^◌, ◌<◌, ◌≤◌, ◌==◌, ◌&&◌, ◌||◌, ◌⊎◌, inl, inr, Bool, true, false, List, [], ◌∷◌, ◌++◌, length, slice_index, replicate, Option, Some, None, Ok, Err, append_assoc, append-nil, refl, sym, ap, ◌∙◌, arith, pos}
+use Rattle.std.specs.Prelude.{if◌then◌else◌, nat_le, nat_lt, ◌≢◌, ℤ}
 use Rattle.std.specs.Fmt.{decimal}
 use Rattle.std.proofs.lemmas.Fmt.{decimal_step, decimal_digit, decimal_by_steps}
-use Rattle.std.proofs.lemmas.Bool.{eqb-true, eqb-false, eq-eqb, ne_eqb, leb-true, le-leb, ltb-false, ltb-true, le-ltb, and_parts, and_from, or_parts, or_from, cases_Bool, both_ways, false_from_ne_true}
-use Rattle.std.proofs.lemmas.Bool.Decides.{nat_tests}
+use Rattle.std.proofs.lemmas.Bool.{eqb-true, eqb-false, eq-eqb, ne_eqb, leb-true, le-leb, ltb-false, le-ltb, and_parts, and_from, or_parts, or_from, cases_Bool}
 use Rattle.std.proofs.lemmas.List.{length-append}
 use Rattle.hex.specs.Hex.{hex_digit_value, lower_digits}
 use Rattle.hex.proofs.HexLemmas.{IsDigits-lower_digits}
-use Rattle.mm_notation.specs.Grammar.{◌·◌, Word, Spaces, Mark, negated, Integer, HexPair}
-use Rattle.mm_notation.specs.Reading.{Read, ◌>>=◌, byte_at, skip, word_at, mark_at, is_digit, digits_at, natural_at, integer_at, unsigned_at, digit_or, digit_at, pair_at}
-use Rattle.mm_notation.proofs.Core.{Core, Any, Then, IsRead, pair_of, equal_core, bind_ok, bind_err, then_core, pure_core, same_core, map_core, Moved, moved_ok, moved_err, moved_past, if_moved, Ends, ends_of, spent, map_moves, Completed, Fine}
+use Rattle.mm_notation.specs.Grammar.{Word, Spaces, Mark, negated, Integer}
+use Rattle.mm_notation.specs.Reading.{Read, ◌>>=◌, byte_at, skip, word_at, mark_at, is_digit, digits_at, natural_at, integer_at, unsigned_at, digit_or, digit_at}
+use Rattle.mm_notation.proofs.Core.{Core, Any, Then, IsRead, pair_of, equal_core, bind_ok, bind_err, then_core, pure_core, same_core, map_core, Moved, moved_ok, moved_err, moved_past, if_moved, Ends, ends_of, spent, map_moves, Completed}
 
 pub chosen : {A : Type 0} (t : Bool) (x y z : A) → (if t then x else y) ≡ z → ((t ≡ true) × (x ≡ z)) ⊎ ((t ≡ false) × (y ≡ z))
 chosen true x y z h = inl (refl, h)

@@ -1,9 +1,9 @@
 -- Reading many items in a loop.
-use Rattle.std.proofs.Common.{◌≡◌, ℕ, zero, suc, ◌<◌, ◌≤◌, List, [], ◌∷◌, ◌++◌, length, Option, Some, None, Result, Ok, Err, false, append_assoc, append-nil, ◌-◌, refl, sym, ap, ◌∙◌, arith}
+use Rattle.std.proofs.Common.{◌≡◌, ℕ, zero, suc, ◌<◌, ◌≤◌, List, [], ◌∷◌, ◌++◌, length, Some, None, Result, Ok, Err, false, append_assoc, append-nil, ◌-◌, refl, sym, ap, ◌∙◌, arith}
 use Rattle.mm_bson.specs.Tree.{Elements, no_elements, element, append, Values, append_values, no_values, item}
 use Rattle.mm_notation.specs.declared.stop.Stop.{Stop}
 use Rattle.mm_notation.specs.declared.stop.Stop.TheVariants.{NoMemory, At}
-use Rattle.mm_notation.specs.Reading.{Read, Item, ◌>>=◌, Fails, behind_item, many_for, many_at, items_behind, more_item, closing_at, pair_at, pairs_at, object_at, array_at, value_at, value_in, member_at, items_at, with_element}
+use Rattle.mm_notation.specs.Reading.{Read, Item, ◌>>=◌, Fails, behind_item, many_for, many_at, items_behind, more_item, closing_at, pair_at, pairs_at, object_at, array_at, value_at, member_at, items_at, with_element}
 
 -- a step that fails decides
 pub fails-bind : {A B : Type 0} (e : Stop) (r : Result A (List ℕ)) (f : A → Result B (List ℕ)) → Fails e r → Fails e (r >>= f)

@@ -1,13 +1,12 @@
 -- Objects and arrays as readers of their languages.
-use Rattle.std.proofs.Common.{◌≡◌, ℕ, zero, suc, ◌+◌, ◌-◌, ◌<◌, ◌≤◌, ◌==◌, ◌⊎◌, inl, inr, Bool, true, false, List, [], ◌∷◌, ◌++◌, length, Option, Some, None, Result, Ok, Err, append_assoc, append-nil, refl, sym, ap, ◌∙◌, subst, arith, max}
+use Rattle.std.proofs.Common.{◌≡◌, ℕ, zero, suc, ◌<◌, ◌≤◌, ◌==◌, inl, inr, Bool, true, false, List, [], ◌∷◌, ◌++◌, length, Option, Some, None, Ok, Err, append_assoc, append-nil, refl, sym, ap, ◌∙◌, subst, arith}
 use Rattle.std.specs.Prelude.{if◌then◌else◌, ◌≢◌}
-use Rattle.std.proofs.lemmas.Bool.{eqb-true, eqb-false, eq-eqb, ne_eqb}
+use Rattle.std.proofs.lemmas.Bool.{eqb-true, eq-eqb, ne_eqb}
 use Rattle.std.proofs.lemmas.List.{length-append}
 use Rattle.mm_bson.specs.Tree.{Tree, Elements, no_elements, element, Values, no_values, item, tree_depth, depth, values_depth}
-use Rattle.mm_bson.specs.Spelling.{HasNoZero}
-use Rattle.mm_notation.specs.Grammar.{◌·◌, Word, Spaces, Mark, String, Name, Value, Array, MoreValues, Object, MoreMembers, IsDocumentText}
-use Rattle.mm_notation.specs.Reading.{Read, Item, ◌>>=◌, byte_at, skip, mark_at, is_digit, many_at, some_of, string_at, closed_at, closing, closing_at, member_at, next_item, more_item, items_behind, items_at, with_element, value_in, object_at, array_at, value_at, document_at}
-use Rattle.mm_notation.proofs.Core.{Core, Any, Then, IsRead, pair_of, bind_ok, bind_err, equal_core, then_core, pure_core, same_core, same_core_at, map_core, folded, Items, Many, many_core, Moved, moved_ok, moved_err, moved_past, if_moved, Half, half_of, Completed}
+use Rattle.mm_notation.specs.Grammar.{◌·◌, Word, Spaces, Mark, Name, Value, MoreValues, MoreMembers, IsDocumentText}
+use Rattle.mm_notation.specs.Reading.{Read, ◌>>=◌, byte_at, skip, mark_at, is_digit, many_at, string_at, closed_at, closing, closing_at, member_at, next_item, more_item, items_behind, items_at, with_element, object_at, array_at, value_at, document_at}
+use Rattle.mm_notation.proofs.Core.{Core, Any, Then, IsRead, pair_of, then_core, pure_core, same_core, same_core_at, map_core, folded, Items, Many, many_core, Moved, moved_ok, moved_err, moved_past, if_moved, Half, half_of, Completed}
 use Rattle.mm_notation.proofs.Leaves.{chosen, kept_ok, kept_err, byte_core, mark_core, spaces_core, Spaceless, NotSpace, Digitless, NotDigit}
 use Rattle.mm_notation.proofs.Texts.{Free, dot_to, dot_from, StringOf, string_core}
 use Rattle.mm_notation.proofs.Trees.{Stopped, ObjectOf, ArrayOf, ValueOf, value_core, value_spaceless, mark_digitless, quoted_spaceless, value_front}

@@ -1,19 +1,19 @@
 -- Strings and hex digits as readers of their languages.
-use Rattle.std.proofs.Common.{◌≡◌, ℕ, zero, suc, ◌+◌, ◌-◌, ◌||◌, ◌*◌, ◌<◌, ◌≤◌, ◌==◌, ◌&&◌, ◌⊎◌, inl, inr, Bool, true, false, List, [], ◌∷◌, ◌++◌, length, get_or, take, drop, Option, Some, None, Result, Ok, Err, append_assoc, append-nil, refl, sym, ap, ◌∙◌, subst, arith}
-use Rattle.std.specs.Prelude.{if◌then◌else◌, nat_le, nat_lt, ◌≢◌, not}
+use Rattle.std.proofs.Common.{◌≡◌, ℕ, zero, suc, ◌+◌, ◌-◌, ◌*◌, ◌<◌, ◌≤◌, ◌==◌, ◌&&◌, ◌⊎◌, inl, inr, Bool, true, false, List, [], ◌∷◌, ◌++◌, length, get_or, take, drop, Option, Some, None, Ok, Err, append_assoc, append-nil, refl, sym, ap, ◌∙◌, subst, arith}
+use Rattle.std.specs.Prelude.{if◌then◌else◌, nat_le, nat_lt, not}
 use Rattle.std.specs.List.{concat}
 use Rattle.std.specs.Str.{is_utf8}
 use Rattle.std.specs.Char.{encode_utf8, IsScalar}
 use Rattle.std.specs.Char.Utf16.{is_high_surrogate, is_low_surrogate, surrogate_pair_char}
-use Rattle.std.proofs.lemmas.Bool.{eqb-true, eqb-false, eq-eqb, ne_eqb, leb-true, leb-false, le-leb, lt-leb, ltb-false, ltb-true, le-ltb, lt-ltb, and_parts, and_from, and_left, and_right, cases_Bool, cases_eq, cases_lt, both_ways, false≢true}
+use Rattle.std.proofs.lemmas.Bool.{eqb-true, eqb-false, eq-eqb, ne_eqb, leb-true, le-leb, lt-leb, ltb-false, ltb-true, le-ltb, lt-ltb, and_parts, and_from, and_left, and_right, cases_eq, cases_lt, both_ways, false≢true}
 use Rattle.std.proofs.lemmas.List.{length-append, take_at, drop_at, get_or-append-add}
 use Rattle.std.proofs.lemmas.Str.{NoCharPasses-byte, encode_ascii, IsUtf8-nil, IsUtf8-append, IsUtf8-take, IsUtf8-drop, IsUtf8-encode, IsCharBoundary-before_ascii, IsCharBoundary-after_ascii, is_utf8-from_IsUtf8}
 use Rattle.std.specs.Str.{NoCharPasses, IsUtf8}
 use Rattle.hex.specs.Hex.{hex_digit_value}
 use Rattle.mm_bson.specs.Spelling.{HasNoZero}
-use Rattle.mm_notation.specs.Grammar.{◌·◌, Where, Word, Quoted, Each, HexPair, HexDigits, HexDigit, Digits16, escaped, Escape, Piece, Inside, String, Name}
-use Rattle.mm_notation.specs.Reading.{Read, Item, ◌>>=◌, byte_at, word_at, digit_at, pair_at, hex_item, hex_at, pairs_at, quoted_at, many_at, unit_at, character_at, letter_or, escape_at, some_of, piece_item, string_at, behind_item, many_for}
-use Rattle.mm_notation.proofs.Core.{Core, Any, Then, IsRead, pair_of, bind_ok, bind_err, equal_core, then_core, pure_core, same_core, map_core, folded, Items, Many, many_core, Moved, moved_ok, moved_err, moved_past, if_moved, ends_of, spent, map_moves, Half, half_of, core_of, then_half, many_half, Fine, fine_rest, Completed}
+use Rattle.mm_notation.specs.Grammar.{◌·◌, Word, Quoted, Each, HexPair, HexDigits, HexDigit, Digits16, escaped, Escape, Piece, String}
+use Rattle.mm_notation.specs.Reading.{Read, ◌>>=◌, byte_at, word_at, digit_at, pair_at, hex_item, hex_at, pairs_at, quoted_at, many_at, unit_at, character_at, letter_or, escape_at, some_of, piece_item, string_at, behind_item, many_for}
+use Rattle.mm_notation.proofs.Core.{Core, Any, Then, pair_of, bind_ok, bind_err, then_core, pure_core, same_core, map_core, folded, Items, Many, many_core, Moved, moved_ok, moved_err, moved_past, if_moved, ends_of, spent, map_moves, Half, half_of, core_of, then_half, many_half, Fine, fine_rest, Completed}
 use Rattle.mm_notation.proofs.Leaves.{chosen, kept_ok, kept_err, byte_core, word_core, Digit, digit_core}
 
 abbrev pub Free : List ℕ → Type 0

@@ -1,21 +1,19 @@
 -- Values, arrays and objects as readers of their languages.
-use Rattle.std.proofs.Common.{◌≡◌, ℕ, zero, suc, ◌+◌, ◌-◌, ◌*◌, ◌^◌, ◌<◌, ◌≤◌, ◌==◌, ◌&&◌, ◌||◌, ◌⊎◌, inl, inr, Bool, true, false, List, [], ◌∷◌, ◌++◌, length, replicate, Option, Some, None, Result, Ok, Err, append_assoc, append-nil, refl, sym, ap, ◌∙◌, subst, arith, pos, max}
-use Rattle.std.specs.Prelude.{if◌then◌else◌, nat_le, nat_lt, ◌≢◌, ℤ, negsuc, codes}
+use Rattle.std.proofs.Common.{◌≡◌, ℕ, zero, suc, ◌+◌, ◌-◌, ◌^◌, ◌<◌, ◌≤◌, ◌==◌, ◌&&◌, ◌||◌, ◌⊎◌, inl, inr, true, false, List, [], ◌∷◌, ◌++◌, length, Option, Some, None, Result, Ok, Err, append_assoc, append-nil, refl, sym, ap, ◌∙◌, subst, arith, pos}
+use Rattle.std.specs.Prelude.{nat_le, ◌≢◌, ℤ, negsuc, codes}
 use Rattle.std.specs.Fmt.{decimal}
 use Rattle.std.specs.Int.{w32, w64}
 use Rattle.std.specs.Int.RustNames.{FitsSigned}
-use Rattle.std.proofs.lemmas.Bool.{eqb-true, eqb-false, eq-eqb, ne_eqb, leb-true, le-leb, lt-leb, ltb-false, ltb-true, le-ltb, lt-ltb, and_parts, and_from, and_left, and_right, or_right, cases_Bool, cases_eq, both_ways, false≢true}
-use Rattle.std.proofs.lemmas.List.{length-append}
+use Rattle.std.proofs.lemmas.Bool.{ne_eqb, leb-true, ltb-true, lt-ltb, and_parts, and_left, or_right, cases_Bool, both_ways, false≢true}
 use Rattle.mm_bson.specs.Tree.{Tree, min_key, null, int32, int64, string, document, array, binary, object_id, boolean, date, timestamp, max_key, Elements, no_elements, element, Values, no_values, item, tree_depth, depth, values_depth}
-use Rattle.mm_bson.specs.Spelling.{HasNoZero}
 use Rattle.mm_notation.specs.declared.kind.Kind.{Kind}
 use Rattle.mm_notation.specs.declared.kind.Kind.TheVariants as kind
-use Rattle.mm_notation.specs.Grammar.{◌·◌, Where, Either, Word, Spaces, Mark, negated, Integer, Quoted, HexDigits, String, Name, Opening, Value, Array, MoreValues, Object, MoreMembers}
+use Rattle.mm_notation.specs.Grammar.{◌·◌, Word, Spaces, Mark, Integer, Quoted, HexDigits, Opening, Value, Array, Object}
 use Rattle.mm_notation.specs.Written.{is_small}
-use Rattle.mm_notation.specs.Reading.{Read, Item, ◌>>=◌, byte_at, skip, word_at, mark_at, is_digit, natural_at, integer_at, unsigned_at, hex_at, quoted_at, many_at, some_of, string_at, kind_of, kind_or, kind_at, constant_at, key_at, number, opening_at, call_at, timestamp_at, object_id_at, hex_data_at, value_of, closed_at, closing, closing_at, member_at, next_item, more_item, items_behind, items_at, with_element, value_in, object_at, array_at, value_at}
-use Rattle.mm_notation.proofs.Core.{Core, Any, Then, IsRead, pair_of, bind_ok, bind_err, equal_core, then_core, pure_core, same_core, map_core, folded, Items, Many, many_core, Moved, moved_ok, moved_err, if_moved, Half, half_of, same_half, map_half, Fine, Completed}
-use Rattle.mm_notation.proofs.Leaves.{chosen, kept_ok, kept_err, byte_core, word_core, mark_core, spaces_core, Spaceless, NotSpace, Digitless, NotDigit, digit_is, Natural, natural_core, Ranged, integer_core, unsigned_core}
-use Rattle.mm_notation.proofs.Texts.{Free, dot_to, dot_from, quoted_core, hex_core, StringOf, string_core}
+use Rattle.mm_notation.specs.Reading.{Read, ◌>>=◌, byte_at, skip, word_at, mark_at, is_digit, natural_at, integer_at, unsigned_at, hex_at, quoted_at, string_at, kind_of, kind_or, kind_at, constant_at, key_at, number, opening_at, call_at, timestamp_at, object_id_at, hex_data_at, value_of, value_in, object_at, array_at, value_at}
+use Rattle.mm_notation.proofs.Core.{Core, Any, Then, bind_ok, bind_err, then_core, same_core, map_core, Moved, moved_err, if_moved, Half, half_of, same_half, map_half, Fine, Completed}
+use Rattle.mm_notation.proofs.Leaves.{chosen, byte_core, word_core, mark_core, spaces_core, Spaceless, NotSpace, Digitless, NotDigit, natural_core, Ranged, integer_core, unsigned_core}
+use Rattle.mm_notation.proofs.Texts.{Free, quoted_core, hex_core, StringOf, string_core}
 
 -- ---- how texts begin
 

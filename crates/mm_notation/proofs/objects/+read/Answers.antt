@@ -1,7 +1,7 @@
-use Rattle.std.proofs.Common.{◌≡◌, ℕ, ◌+◌, ◌<◌, length, Ok, Some, None, true, refl, sym, ap, ◌∙◌, arith}
+use Rattle.std.proofs.Common.{◌≡◌, ◌+◌, ◌<◌, length, Ok, Some, None, true, refl, sym, ap, ◌∙◌, arith}
 use Rattle.std.specs.Prelude.{option_map}
 use Rattle.std.proofs.lemmas.Result.{err_from_is_err_and}
-use Rattle.mm_bson.specs.Tree.{Tree, Elements, no_elements, element, append, Values, no_values, item, append_values, depth, values_depth, tree_depth}
+use Rattle.mm_bson.specs.Tree.{Elements, no_elements, element, append, Values, no_values, item, append_values, depth, values_depth, tree_depth}
 use Rattle.mm_bson.specs.View.{tree}
 use Rattle.mm_bson.proofs.Building.{depth-push, values_depth-push}
 use Rattle.mm_notation.specs.Reading.{member_at, more_item, value_at, with_element}

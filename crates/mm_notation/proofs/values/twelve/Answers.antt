@@ -1,9 +1,8 @@
-use Rattle.std.proofs.Common.{◌≡◌, ℕ, ◌+◌, ◌-◌, ◌<◌, List, [], ◌∷◌, ◌++◌, length, take, suc, sym, ◌∙◌, refl, arith}
+use Rattle.std.proofs.Common.{◌≡◌, ℕ, ◌+◌, ◌-◌, [], ◌∷◌, ◌++◌, take, sym, ◌∙◌, arith}
 use Rattle.std.specs.Prelude.{slice_set}
 use Rattle.std.proofs.lemmas.List.{take_more_set, length-set, take_all}
 use Rattle.std.proofs.lemmas.Result.{err_from_is_err_and}
-use Rattle.mm_notation.specs.Reading.{pairs_at}
-use Rattle.mm_notation.proofs.Loops.{prepend, begins, pairs_on, pairs_done, pairs_stop}
+use Rattle.mm_notation.proofs.Loops.{pairs_on, pairs_done, pairs_stop}
 use Rattle.mm_notation.proofs.values.twelve.Goals as goal
 
 pub loop-i-preserved : goal.loop-i-preserved
