@@ -17,8 +17,6 @@ mod memory;
 mod name;
 mod place;
 mod places;
-#[cfg(test)]
-mod tests;
 
 pub use arrays::{frame, is_zero, put_bytes, put_zeros, read_array};
 pub use fields::{

@@ -33,6 +33,3 @@ pub use list::DocList;
 pub use order::{class, cmp, order_is_total};
 pub use reading::{MAX_LEN, MAX_LEVELS};
 pub use text::{Blob, Text, is_text};
-
-#[cfg(test)]
-mod tests;

@@ -22,8 +22,6 @@ mod file_header;
 mod index_pair;
 mod node_head;
 mod rec_header;
-#[cfg(test)]
-mod tests;
 
 pub use deleted_header::{
     DELETED_HEADER_LEN, DeletedHeader, NEXT_DELETED_AT, deleted_header_frame, put_deleted_header,

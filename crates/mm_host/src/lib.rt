@@ -17,8 +17,6 @@ mod files;
 mod folder;
 mod names;
 mod streams;
-#[cfg(test)]
-mod tests;
 mod whole;
 
 pub use folder::FolderDisk;

@@ -22,6 +22,3 @@ pub use fault::{KeyFault, SpecFault};
 pub use key::{MAX_KEY_LEN, key_of};
 pub use order::{key_cmp, key_order_by_fields, key_order_is_total};
 pub use specification::{KeySpec, MAX_FIELDS};
-
-#[cfg(test)]
-mod tests;

@@ -20,6 +20,3 @@ pub use call::{Begun, Change};
 pub use disk::MemDisk;
 pub use sink::MemSink;
 pub use source::MemSource;
-
-#[cfg(test)]
-mod tests;

@@ -31,6 +31,3 @@ pub use fault::{NoMemory, NotationFault};
 pub use laws::{texts_are_unique, written_is_text};
 pub use reading::read_doc;
 pub use writing::write_doc;
-
-#[cfg(test)]
-mod tests;

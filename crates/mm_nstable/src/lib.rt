@@ -19,8 +19,6 @@ mod hash;
 mod nodes;
 mod search;
 mod table;
-#[cfg(test)]
-mod tests;
 
 pub use fault::NsFault;
 pub use table::{details, find, free_nodes, insert, names, put_details, remove};

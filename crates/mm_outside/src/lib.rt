@@ -17,26 +17,3 @@ mod stream;
 
 pub use disk::{Device, Disk};
 pub use stream::{Sink, SinkFault, Source, SourceFault};
-
-#[cfg(test)]
-mod tests {
-    use super::*;
-    use std::test::Fail;
-
-    #[test]
-    fn errors_have_a_text(rt: HostRuntime) -> Result<(), Fail> {
-        let alloc = rt.alloc();
-        let texts = format!(in alloc;
-            "{}, {}, {}, {}",
-            Device::Fault,
-            Device::NoMemory,
-            SourceFault,
-            SinkFault
-        )?;
-        assert_eq!(rt;
-            texts.as_str(),
-            "the disk failed, out of memory, the source failed, the sink failed"
-        );
-        Ok(())
-    }
-}

@@ -31,6 +31,3 @@ pub use fault::FilterFault;
 pub use filter::Filter;
 pub use laws::{contraries, empty_filter_matches_all, one_filter_is_itself};
 pub use memory::NoMemory;
-
-#[cfg(test)]
-mod tests;

@@ -20,8 +20,6 @@ mod range_iter;
 mod range_set;
 mod room_set;
 mod spans;
-#[cfg(test)]
-mod tests;
 
 pub use limits::{MAX_FILE_LEN, MAX_NS_LEN, NS_FILE, PAGE_LEN, is_file, max_len};
 pub use memory::NoMemory;

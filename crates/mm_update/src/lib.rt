@@ -31,6 +31,3 @@ mod write;
 pub use change::Change;
 pub use fault::ChangeFault;
 pub use laws::{changes_keep_other_paths, changes_keep_the_id, set_puts_its_value};
-
-#[cfg(test)]
-mod tests;

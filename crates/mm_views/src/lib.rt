@@ -15,8 +15,6 @@
 mod draft;
 mod image;
 mod parts;
-#[cfg(test)]
-mod tests;
 mod views;
 
 pub use draft::Draft;
