@@ -1,3 +1,5 @@
 pub mod Again
 pub mod ExactHeader
 pub mod OneField
+pub mod JournalFrames
+pub mod HeaderKinds

@@ -5,3 +5,8 @@ pub mod DeletedHeader
 pub mod NodeHead
 pub mod IndexPair
 pub mod Details
+pub mod SectionHeader
+pub mod EntryHead
+pub mod Footer
+pub mod JournalHeader
+pub mod Lsn
