@@ -16,22 +16,22 @@ use Rattle.mm_bson.specs.Tree.{Tree, min_key, null, int32, int64, string, docume
 use Rattle.mm_bson.specs.Named.{named}
 use Rattle.mm_bson.specs.Spelling.{type_byte, framed, text_spelling, value_spelling, elements_spelling, values_spelling, spelling, IsName, HasNoZero, IsValue, AreElements, AreValues, IsDocument}
 use Rattle.mm_bson.specs.Reading.{Reader, is_due, type_at, number_at, name_at, string_at, binary_at, boolean_at, len_at, document_at, value_at, element_at, elements_at, body, nested_at, whole}
-use Rattle.mm_bson.proofs.Fields.{wide32, wide64, number_again}
+use Rattle.mm_bson.proofs.Bytes.{wide32, wide64, number_again}
 use Rattle.mm_bson.proofs.Numbered.{unnamed_again, numbered_spelling, numeral_is_name, is_itself}
 use Rattle.std.specs.Fmt.{decimal}
 
 -- ---- names
 
-abbrev not_zero : ℕ → Bool
+abbrev pub not_zero : ℕ → Bool
 not_zero b = not (eqb b 0)
 
-name_len : (name rest : List ℕ) → HasNoZero name → prefix_len not_zero (name ++ 0 ∷ rest) ≡ length name
+pub name_len : (name rest : List ℕ) → HasNoZero name → prefix_len not_zero (name ++ 0 ∷ rest) ≡ length name
 name_len [] rest h = refl
 name_len (b ∷ name) rest h =
     let e : eqb b 0 ≡ false = grind (arith, nat_tests, h.0) in
     rw e (omega (arith, name_len name rest h.1))
 
-name_again : (due : Option ℕ) (end : ℕ) (name rest : List ℕ) → IsName name → is_due due name ≡ true → name_at due end ((name ++ 0 ∷ []) ++ rest) ≡ Ok (name, rest)
+pub name_again : (due : Option ℕ) (end : ℕ) (name rest : List ℕ) → IsName name → is_due due name ≡ true → name_at due end ((name ++ 0 ∷ []) ++ rest) ≡ Ok (name, rest)
 unfolding name_at
 name_again due end name rest h is_it =
     let joined : (name ++ 0 ∷ []) ++ rest ≡ name ++ 0 ∷ rest = append_assoc name (0 ∷ []) rest in
@@ -42,7 +42,7 @@ name_again due end name rest h is_it =
 
 -- ---- texts
 
-string_again : (end : ℕ) (s rest : List ℕ) → is_utf8 s ≡ true → length (text_spelling s) < 2 ^ 32 → string_at end (text_spelling s ++ rest) ≡ Ok (s, rest)
+pub string_again : (end : ℕ) (s rest : List ℕ) → is_utf8 s ≡ true → length (text_spelling s) < 2 ^ 32 → string_at end (text_spelling s ++ rest) ≡ Ok (s, rest)
 unfolding string_at text_spelling
 string_again end s rest text lt =
     let n : ℕ = length s + 1 in
@@ -59,22 +59,22 @@ string_again end s rest text lt =
 
 -- ---- documents
 
-inner_len : (inner : List ℕ) → length (framed inner) ≡ length inner + 5
+pub inner_len : (inner : List ℕ) → length (framed inner) ≡ length inner + 5
 unfolding framed
 inner_len inner = omega (arith, length-append inner (0 ∷ []))
 
-spelling_len : (es : Elements) → length (spelling es) ≡ length (elements_spelling es) + 5
+pub spelling_len : (es : Elements) → length (spelling es) ≡ length (elements_spelling es) + 5
 unfolding spelling
 spelling_len es = inner_len (elements_spelling es)
 
-spelling_opened : (es : Elements) → spelling es ≡ to_le_bytes w32 (length (spelling es)) ++ (elements_spelling es ++ 0 ∷ [])
+pub spelling_opened : (es : Elements) → spelling es ≡ to_le_bytes w32 (length (spelling es)) ++ (elements_spelling es ++ 0 ∷ [])
 unfolding spelling framed
 spelling_opened es = ap (λ (n : ℕ). to_le_bytes w32 n ++ (elements_spelling es ++ 0 ∷ [])) (sym (spelling_len es))
 
-spelling_parts : (es : Elements) (rest : List ℕ) → spelling es ++ rest ≡ to_le_bytes w32 (length (spelling es)) ++ ((elements_spelling es ++ 0 ∷ []) ++ rest)
+pub spelling_parts : (es : Elements) (rest : List ℕ) → spelling es ++ rest ≡ to_le_bytes w32 (length (spelling es)) ++ ((elements_spelling es ++ 0 ∷ []) ++ rest)
 spelling_parts es rest = ap (λ (x : List ℕ). x ++ rest) (spelling_opened es) ∙ append_assoc (to_le_bytes w32 (length (spelling es))) (elements_spelling es ++ 0 ∷ []) rest
 
-document_again : (read : ℕ → List ℕ → Result Elements BsonFault) (end : ℕ) (es : Elements) (rest : List ℕ) → length (spelling es) < 2 ^ 32 → ((start : ℕ) → read start (spelling es) ≡ Ok es)
+pub document_again : (read : ℕ → List ℕ → Result Elements BsonFault) (end : ℕ) (es : Elements) (rest : List ℕ) → length (spelling es) < 2 ^ 32 → ((start : ℕ) → read start (spelling es) ≡ Ok es)
     → document_at read end (spelling es ++ rest) ≡ Ok (es, rest)
 unfolding document_at len_at
 document_again read end es rest lt reads =
@@ -85,7 +85,7 @@ document_again read end es rest lt reads =
     rw (number, some, long, take_at (spelling es) rest n refl, reads (end - length (spelling es ++ rest)), drop_at (spelling es) rest n refl) refl
 
 -- the last byte of a document and what lies between
-nested_from : (levels : ℕ) (due : Option ℕ) (start : ℕ) (es : Elements)
+pub nested_from : (levels : ℕ) (due : Option ℕ) (start : ℕ) (es : Elements)
     → ((end : ℕ) → elements_at (nested_at levels) due start end (length (elements_spelling es)) (elements_spelling es) ≡ Ok es) → nested_at (suc levels) due start (spelling es) ≡ Ok es
 unfolding nested_at
 nested_from levels due start es given =
@@ -103,7 +103,7 @@ nested_from levels due start es given =
 
 -- ---- values and elements
 
-abbrev kind_for : Tree → Kind
+abbrev pub kind_for : Tree → Kind
 kind_for (int32 z) = kind.Int32
 kind_for (int64 z) = kind.Int64
 kind_for (string s) = kind.String
@@ -118,7 +118,7 @@ kind_for min_key = kind.MinKey
 kind_for null = kind.Null
 kind_for max_key = kind.MaxKey
 
-type_again : (start end : ℕ) (t : Tree) (rest : List ℕ) → type_at start end (type_byte t ∷ rest) ≡ Ok (kind_for t, rest)
+pub type_again : (start end : ℕ) (t : Tree) (rest : List ℕ) → type_at start end (type_byte t ∷ rest) ≡ Ok (kind_for t, rest)
 type_again start end (int32 z) rest = refl
 type_again start end (int64 z) rest = refl
 type_again start end (string s) rest = refl
@@ -133,7 +133,7 @@ type_again start end min_key rest = refl
 type_again start end null rest = refl
 type_again start end max_key rest = refl
 
-int32_again : (read : Reader) (end : ℕ) (z : ℤ) (rest : List ℕ) → FitsSigned w32 z → value_at read kind.Int32 end (value_spelling (int32 z) ++ rest) ≡ Ok (int32 z, rest)
+pub int32_again : (read : Reader) (end : ℕ) (z : ℤ) (rest : List ℕ) → FitsSigned w32 z → value_at read kind.Int32 end (value_spelling (int32 z) ++ rest) ≡ Ok (int32 z, rest)
 unfolding value_at
 int32_again read end z rest fits =
     let small : cast_unsigned w32 z < 2 ^ 32 = omega (arith, ints) in
@@ -151,7 +151,7 @@ date_again read end z rest fits =
     let small : cast_unsigned w64 z < 2 ^ 64 = omega (arith, ints) in
     rw (number_again w64 (2 ^ 64) wide64 end (cast_unsigned w64 z) rest small, to_z-of_z w64 z fits) refl
 
-binary_again : (end k : ℕ) (bytes rest : List ℕ) → length (value_spelling (binary k bytes)) < 2 ^ 32 → binary_at end (value_spelling (binary k bytes) ++ rest) ≡ Ok ((k, bytes), rest)
+pub binary_again : (end k : ℕ) (bytes rest : List ℕ) → length (value_spelling (binary k bytes)) < 2 ^ 32 → binary_at end (value_spelling (binary k bytes) ++ rest) ≡ Ok ((k, bytes), rest)
 unfolding binary_at
 binary_again end k bytes rest short =
     let n : ℕ = length bytes in
@@ -160,17 +160,17 @@ binary_again end k bytes rest short =
     rw (number_again w32 (2 ^ 32) wide32 end n (k ∷ (bytes ++ rest)) small, long, take_at bytes rest n refl, drop_at bytes rest n refl) refl
 
 -- how long an element is
-element_len_is : (t : Tree) (name others : List ℕ) → length (type_byte t ∷ ((name ++ 0 ∷ []) ++ (value_spelling t ++ others))) ≡ suc (length name + 1 + (length (value_spelling t) + length others))
+pub element_len_is : (t : Tree) (name others : List ℕ) → length (type_byte t ∷ ((name ++ 0 ∷ []) ++ (value_spelling t ++ others))) ≡ suc (length name + 1 + (length (value_spelling t) + length others))
 element_len_is t name others = omega (arith, length-append (name ++ 0 ∷ []) (value_spelling t ++ others), length-append name (0 ∷ []), length-append (value_spelling t) others)
 
-count_le : (i : ℕ) (vs : Values) → count vs ≤ length (values_spelling i vs)
+pub count_le : (i : ℕ) (vs : Values) → count vs ≤ length (values_spelling i vs)
 count_le i no_values = omega arith
 count_le i (item t vs) = omega (arith, element_len_is t (decimal i) (values_spelling (i + 1) vs), count_le (i + 1) vs)
 
 mutual
   unfolding value_at spelling elements_at element_at boolean_at
 
-  value_again : (t : Tree) (levels end : ℕ) (rest : List ℕ) → IsValue t → tree_depth t ≤ levels → length (value_spelling t) < 2 ^ 32
+  pub value_again : (t : Tree) (levels end : ℕ) (rest : List ℕ) → IsValue t → tree_depth t ≤ levels → length (value_spelling t) < 2 ^ 32
       → value_at (nested_at levels) (kind_for t) end (value_spelling t ++ rest) ≡ Ok (t, rest)
   value_again (int32 z) levels end rest fits deep short = int32_again (nested_at levels) end z rest fits
   value_again (int64 z) levels end rest fits deep short = int64_again (nested_at levels) end z rest fits
@@ -203,7 +203,7 @@ mutual
       let read = document_again (nested_at (suc levels) (Some 0)) end es rest (omega (arith, ap length same, short)) inner in
       rw (same, read, unnamed_again 0 vs) refl
 
-  elements_again : (es : Elements) (levels start end most : ℕ) → AreElements es → depth es ≤ levels → length (elements_spelling es) < 2 ^ 32 → length (elements_spelling es) ≤ most
+  pub elements_again : (es : Elements) (levels start end most : ℕ) → AreElements es → depth es ≤ levels → length (elements_spelling es) < 2 ^ 32 → length (elements_spelling es) ≤ most
       → elements_at (nested_at levels) None start end most (elements_spelling es) ≡ Ok es
   elements_again no_elements levels start end most fits deep short long = refl
   elements_again (element name t es) levels start end zero fits deep short long = absurd (omega arith)
@@ -216,7 +216,7 @@ mutual
       let rest = elements_again es levels start end most fits.2 (omega arith) (omega (arith, len, short)) (omega (arith, len, long)) in
       rw (head, named, value, rest) refl
 
-  values_again : (vs : Values) (i levels start end most : ℕ) → AreValues vs → values_depth vs ≤ levels → length (values_spelling i vs) < 2 ^ 32 → length (values_spelling i vs) ≤ most → i + count vs < 2 ^ 64
+  pub values_again : (vs : Values) (i levels start end most : ℕ) → AreValues vs → values_depth vs ≤ levels → length (values_spelling i vs) < 2 ^ 32 → length (values_spelling i vs) ≤ most → i + count vs < 2 ^ 64
       → elements_at (nested_at levels) (Some i) start end most (values_spelling i vs) ≡ Ok (named i vs)
   values_again no_values i levels start end most fits deep short long few = refl
   values_again (item t vs) i levels start end zero fits deep short long few = absurd (omega arith)

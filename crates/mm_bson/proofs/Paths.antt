@@ -3,7 +3,8 @@ use Rattle.std.proofs.Common.{◌≡◌, ℕ, suc, ◌+◌, ◌<◌, ◌≤◌, 
 use Rattle.std.specs.Prelude.{position, option_and_then, option_map, IfSome}
 use Rattle.std.specs.Borrow.{Bor}
 use Rattle.mm_bson.specs.declared.doc.Value.{Value}
-use Rattle.mm_bson.specs.View.{tree}
+use Rattle.mm_bson.specs.declared.place.ValueRef.{ValueRef}
+use Rattle.mm_bson.specs.View.{tree, tree_in}
 use Rattle.std.specs.List.{prefix_len}
 use Rattle.std.proofs.lemmas.Bool.{ltb-true, ltb-false}
 use Rattle.std.specs.Str.{bytes_eq}
@@ -121,3 +122,7 @@ value_at-shallow (name ∷ others) es t found = by others (find name es) refl fo
 pub found-shallow : (found : Option (Bor Value)) (value : Option Tree) (es : Elements) → option_map (λ v. tree v.now) found ≡ value → depth es < 100 → ((t : Tree) → value ≡ Some t → tree_depth t ≤ depth es) → IfSome found (λ v. tree_depth (tree v.now) < 100)
 found-shallow None value es is levels below = tt
 found-shallow (Some v) value es is levels below = omega (arith, below (tree v.now) (sym is))
+
+pub found_in-shallow : (found : Option ValueRef) (value : Option Tree) (es : Elements) → option_map tree_in found ≡ value → depth es < 100 → ((t : Tree) → value ≡ Some t → tree_depth t ≤ depth es) → IfSome found (λ v. tree_depth (tree_in v) < 100)
+found_in-shallow None value es is levels below = tt
+found_in-shallow (Some v) value es is levels below = omega (arith, below (tree_in v) (sym is))

@@ -14,7 +14,7 @@ use Rattle.mm_bson.specs.Named.{unnamed}
 use Rattle.mm_bson.specs.Spelling.{type_byte, value_spelling}
 use Rattle.mm_bson.specs.Reading.{◌>>=◌, Gives, Reader, is_due, next_due, kind_of, kind_at, type_at, number_at, name_to, name_at, text_to, bytes_at, binary_at, boolean_at, string_at, len_at, document_at, value_at, element_at, elements_at, body, ended, nested_at, IsFramed, whole}
 use Rattle.mm_bson.specs.Faults.{LiesIn, IsExplained}
-use Rattle.mm_bson.proofs.Fields.{IsBytes, IsBytes-take, IsBytes-drop}
+use Rattle.mm_bson.proofs.Bytes.{IsBytes, IsBytes-take, IsBytes-drop}
 use Rattle.mm_bson.proofs.Takes.{Reads, type_takes, name_takes, or_false, number_ok, len_ok, element_takes, nested_takes}
 
 wider : (lo hi lo' hi' : ℕ) (e : BsonFault) → lo' ≤ lo → hi ≤ hi' → LiesIn lo hi e → LiesIn lo' hi' e

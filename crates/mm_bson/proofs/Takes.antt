@@ -18,7 +18,7 @@ use Rattle.mm_bson.specs.Tree.{Tree, min_key, null, int32, int64, string, docume
 use Rattle.mm_bson.specs.Named.{unnamed, AreNumbered}
 use Rattle.mm_bson.specs.Spelling.{type_byte, framed, text_spelling, value_spelling, elements_spelling, values_spelling, spelling, IsName, HasNoZero, IsValue, AreElements, IsDocument}
 use Rattle.mm_bson.specs.Reading.{◌>>=◌, Reader, is_due, next_due, kind_of, kind_at, type_at, number_at, name_to, name_at, text_to, bytes_at, binary_at, boolean_at, string_at, len_at, document_at, value_at, element_at, elements_at, body, ended, nested_at, IsFramed, whole, Gives}
-use Rattle.mm_bson.proofs.Fields.{IsBytes, IsBytes-take, IsBytes-drop, bind_ok, guard_ok, passed_ok, ok_is, ok_gives, Takes, Takes-then, wide32, wide64, number_takes}
+use Rattle.mm_bson.proofs.Bytes.{IsBytes, IsBytes-take, IsBytes-drop, bind_ok, guard_ok, passed_ok, ok_is, ok_gives, Takes, Takes-then, wide32, wide64, number_takes}
 use Rattle.mm_bson.proofs.Numbered.{name_is, named_again, numbered_spelling, numbered_depth, numbered_values}
 
 IsBytes-tail : (b : ℕ) (bytes : List ℕ) → IsBytes (b ∷ bytes) → IsBytes bytes

@@ -3,9 +3,11 @@ pub mod Named
 pub mod Code
 pub mod Spelling
 pub mod Built
-pub mod View
 pub mod Falls
 pub mod Reading
+pub mod Piece
+pub mod Walk
+pub mod View
 pub mod Order
 pub mod Path
 pub mod Faults

@@ -6,6 +6,7 @@ ghost use Rattle.mm_bson.specs.Tree.{tree_depth, depth, values_depth, no_element
 ghost use Rattle.mm_bson.specs.Spelling.{spelling, array_spelling, element_len, HasNoZero};
 ghost use Rattle.mm_bson.specs.Built.{IsBuilt, IsBuiltArray, HoldsDocument, HoldsArray};
 
+use crate::place::{DocRef, ListRef, ObjectIdRef, ValueRef};
 use crate::text::{Blob, Text};
 use crate::writing::put_element;
 use itoa::Buffer;
@@ -176,6 +177,13 @@ impl Doc {
         self.bytes.as_slice()
     }
 
+    /// The document in place.
+    pub fn as_ref(&self) -> DocRef<'_>
+        ensures { result ≡ self.now }
+    {
+        DocRef::of_spelled(self.bytes())
+    }
+
     pub(crate) fn allocator(&self) -> Global {
         *self.bytes.allocator()
     }
@@ -262,6 +270,13 @@ impl ValueList {
         self.bytes.as_slice()
     }
 
+    /// The array in place.
+    pub fn as_ref(&self) -> ListRef<'_>
+        ensures { result ≡ self.now }
+    {
+        ListRef::of_spelled(self.bytes())
+    }
+
     pub(crate) fn allocator(&self) -> Global {
         *self.bytes.allocator()
     }
@@ -282,7 +297,34 @@ impl ValueList {
 }
 
 impl Value {
-    ghost use Rattle.mm_bson.specs.View.{tree};
+    ghost use Rattle.mm_bson.specs.View.{tree, tree_in};
+
+    /// The value in place.
+    pub fn as_ref(&self) -> ValueRef<'_>
+        ensures { tree_in result ≡ tree self.now }
+    {
+        match self {
+            Value::MinKey => ValueRef::MinKey,
+            Value::Null => ValueRef::Null,
+            Value::Int32(number) => ValueRef::Int32(*number),
+            Value::Int64(number) => ValueRef::Int64(*number),
+            Value::String(text) => ValueRef::String(text.as_ref()),
+            Value::Document(document) => ValueRef::Document(document.as_ref()),
+            Value::Array(list) => ValueRef::Array(list.as_ref()),
+            Value::Binary { subtype, bytes } => ValueRef::Binary {
+                subtype: *subtype,
+                bytes: bytes.as_bytes(),
+            },
+            Value::ObjectId(id) => ValueRef::ObjectId(ObjectIdRef::of_bytes(id)),
+            Value::Boolean(set) => ValueRef::Boolean(*set),
+            Value::Date(time) => ValueRef::Date(*time),
+            Value::Timestamp { seconds, increment } => ValueRef::Timestamp {
+                seconds: *seconds,
+                increment: *increment,
+            },
+            Value::MaxKey => ValueRef::MaxKey,
+        }
+    }
 
     /// How many levels of documents and arrays the value has.
     pub fn levels(&self) -> usize

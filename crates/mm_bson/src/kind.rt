@@ -22,6 +22,7 @@ pub(crate) enum Kind {
 }
 
 /// The type of a type byte.
+#[inline(always)]
 pub(crate) fn from_byte(byte: u8) -> Option<Kind>
     ensures { result ≡ kind_of byte }
 {

@@ -9,11 +9,15 @@
 //! - `new`, `push` and `copy` build documents and arrays, whose bytes grow in
 //!   place. They have at most 100 levels and fewer than 2^31 bytes.
 //! - `get` follows a path, and `cmp` is a total order of values.
+//! - `DocRef`, `ListRef` and `ValueRef` are the same in place: parts of bytes,
+//!   seen as what the bytes spell, by the same clauses and without memory.
+//!   `is_document` and `check` judge bytes as `Doc::parse` does.
 //!
 //! Not promised: that memory suffices. In specs/, Spelling is the grammar,
 //! Reading the first fault, Order the order and Path what a path leads to.
 #![tactic(auto)]
 
+mod checking;
 mod copying;
 mod doc;
 mod fault;
@@ -22,14 +26,18 @@ mod laws;
 mod list;
 mod order;
 mod path;
+mod place;
+mod raw;
 mod reading;
 mod text;
 mod writing;
 
+pub use checking::{check, is_document};
 pub use doc::{Doc, Element, Value, ValueList};
 pub use fault::BsonFault;
 pub use laws::{arrays_are_documents, spellings_are_unique};
 pub use list::DocList;
 pub use order::{class, cmp, order_is_total};
+pub use place::{DocRef, FieldRef, Fields, Items, ListRef, ObjectIdRef, TextRef, ValueRef};
 pub use reading::{MAX_LEN, MAX_LEVELS};
 pub use text::{Blob, Text, is_text};

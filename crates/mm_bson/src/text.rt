@@ -4,6 +4,7 @@ ghost use Rattle.std.specs.Prelude.{◌≡◌, ◌↔◌, true, IsTrue, IfOk};
 ghost use Rattle.std.specs.Str.{is_utf8};
 ghost use Rattle.mm_bson.specs.Spelling.{HasNoZero};
 
+use crate::place::TextRef;
 use smallvec::SmallVec;
 use std::alloc::{AllocError, Global};
 use std::marker::Model;
@@ -86,6 +87,13 @@ impl Text {
     {
         let bytes = self.as_bytes();
         unsafe { str::from_utf8_unchecked(bytes) }
+    }
+
+    /// The text in place.
+    pub fn as_ref(&self) -> TextRef<'_>
+        ensures { result ≡ self.now }
+    {
+        TextRef::of_utf8(self.as_bytes())
     }
 
     /// Whether no byte is 00, so that the text may be a name.

@@ -1,0 +1,10 @@
+use Rattle.std.proofs.Common.{◌∙◌}
+use Rattle.mm_bson.proofs.Numbered.{unnamed_again}
+use Rattle.mm_bson.proofs.Walks.{built_array_spells}
+use Rattle.mm_bson.proofs.doc.ValueList.as_ref.Goals as goal
+
+pub of_spelled-requires : goal.of_spelled-requires
+of_spelled-requires c = (_, built_array_spells _ _ c.bytes.ensures.spelled c.bytes.ensures.built)
+
+pub returns : goal.returns
+returns c = c.of_spelled.ensures.same _ (built_array_spells _ _ c.bytes.ensures.spelled c.bytes.ensures.built) ∙ unnamed_again 0 _

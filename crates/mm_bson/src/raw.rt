@@ -1,0 +1,370 @@
+//! Fields, read from the front of bytes. Nothing is looked at inside a text, a
+//! document or an array.
+//!
+//! Each reader is given the bytes up to its document's last byte, which lies
+//! at the offset `end`, and answers a value and the bytes after it.
+
+ghost use Rattle.std.specs.Prelude.{◌≡◌, ◌<◌, ◌≤◌, ◌+◌, ◌==◌, true, length, take, position, Some, None, IfSome, IfOk, Ok};
+ghost use Rattle.std.specs.Int.{w32, w64};
+ghost use Rattle.std.specs.Fmt.{decimal};
+ghost use Rattle.std.specs.Str.{is_utf8, bytes_eq};
+ghost use Rattle.mm_bson.specs.Reading.{IsFramed, is_due, number_at, name_at, bytes_at, binary_at, boolean_at, type_at, len_at};
+ghost use Rattle.mm_bson.specs.Piece.{Is, piece, piece_len, IsPieceFramed, text_at, framed_at, piece_at, head_at, cut_at};
+
+use crate::fault::BsonFault;
+use crate::kind::{Kind, from_byte};
+use crate::text::is_text;
+use itoa::Buffer;
+
+/// The bytes of the shortest document: its length and its last 00.
+const EMPTY_LEN: usize = 5;
+
+/// A value as it lies in its document's bytes.
+#[derive(Clone, Copy)]
+pub(crate) enum Raw<'a> {
+    MinKey,
+    Null,
+    Int32(i32),
+    Int64(i64),
+    String(&'a [u8]),
+    Document(&'a [u8]),
+    Array(&'a [u8]),
+    Binary { subtype: u8, bytes: &'a [u8] },
+    ObjectId(&'a [u8]),
+    Boolean(bool),
+    Date(i64),
+    Timestamp { seconds: u32, increment: u32 },
+    MaxKey,
+}
+
+/// A name and its value.
+#[derive(Clone, Copy)]
+pub(crate) struct Head<'a> {
+    pub(crate) name: &'a [u8],
+    pub(crate) value: Raw<'a>,
+}
+
+/// Whether the bytes are UTF-8, quicker where they are ASCII, as names mostly
+/// are.
+#[inline(always)]
+fn is_name_text(bytes: &[u8]) -> bool
+    ensures { result ≡ is_utf8 bytes.now }
+{
+    if bytes.is_ascii() {
+        return true;
+    }
+    is_text(bytes)
+}
+
+#[inline(always)]
+pub(crate) fn u32_at(bytes: &[u8], end: usize) -> Result<(u32, &[u8]), BsonFault>
+    requires { length bytes.now ≤ end }
+    ensures gives { Is (λ x. (x.0, x.1.now)) result (number_at w32 end bytes.now) }
+    ensures left { IfOk result (λ x. length x.1.now < length bytes.now) }
+{
+    if bytes.len() < 4 {
+        return Err(BsonFault::BadLength {
+            at: end - bytes.len(),
+        });
+    }
+    let (front, rest) = bytes.split_at(4);
+    let number = u32::from_le_bytes([front[0], front[1], front[2], front[3]]);
+    Ok((number, rest))
+}
+
+#[inline(always)]
+fn u64_at(bytes: &[u8], end: usize) -> Result<(u64, &[u8]), BsonFault>
+    requires { length bytes.now ≤ end }
+    ensures gives { Is (λ x. (x.0, x.1.now)) result (number_at w64 end bytes.now) }
+    ensures left { IfOk result (λ x. length x.1.now < length bytes.now) }
+{
+    if bytes.len() < 8 {
+        return Err(BsonFault::BadLength {
+            at: end - bytes.len(),
+        });
+    }
+    let (front, rest) = bytes.split_at(8);
+    let number = u64::from_le_bytes([
+        front[0], front[1], front[2], front[3], front[4], front[5], front[6], front[7],
+    ]);
+    Ok((number, rest))
+}
+
+#[inline(always)]
+pub(crate) fn zero_in(bytes: &[u8]) -> Option<usize>
+    ensures value { result ≡ position (λ b. b == 0) bytes.now }
+    ensures within { IfSome result (λ n. n < length bytes.now) }
+{
+    bytes.iter().position(|b| *b == 0)
+}
+
+fn is_numbered(name: &[u8], index: usize) -> bool
+    ensures { result ≡ bytes_eq name.now (decimal index) }
+{
+    let mut digits = Buffer::new();
+    name == digits.format(index).as_bytes()
+}
+
+/// Whether the name is the one that is due in an array.
+#[inline(always)]
+fn is_that(due: Option<usize>, name: &[u8]) -> bool
+    ensures { result ≡ is_due due name.now }
+{
+    match due {
+        None => true,
+        Some(index) => is_numbered(name, index),
+    }
+}
+
+/// A name and the bytes after its 00.
+#[tactic(auto, unfolding(crate::specs::Reading::name_at))]
+#[inline(always)]
+fn name_of(bytes: &[u8], end: usize, due: Option<usize>) -> Result<(&[u8], &[u8]), BsonFault>
+    requires { length bytes.now ≤ end }
+    ensures gives { Is (λ x. (x.0.now, x.1.now)) result (name_at due end bytes.now) }
+    ensures left { IfOk result (λ x. length x.1.now < length bytes.now) }
+{
+    match zero_in(bytes) {
+        None => Err(BsonFault::BadLength {
+            at: end - bytes.len(),
+        }),
+        Some(n) => {
+            let front = &bytes[..n];
+            if !is_name_text(front) {
+                return Err(BsonFault::BadUtf8 {
+                    at: end - bytes.len(),
+                });
+            }
+            if !is_that(due, front) {
+                return Err(BsonFault::BadName {
+                    at: end - bytes.len(),
+                });
+            }
+            Ok((front, &bytes[n + 1..]))
+        }
+    }
+}
+
+#[tactic(auto, unfolding(crate::specs::Piece::text_at))]
+#[inline(always)]
+fn text_of(bytes: &[u8], end: usize) -> Result<(&[u8], &[u8]), BsonFault>
+    requires { length bytes.now ≤ end }
+    ensures gives { Is (λ x. (x.0.now, x.1.now)) result (text_at end bytes.now) }
+    ensures left { IfOk result (λ x. length x.1.now + (length x.0.now + 1) ≤ length bytes.now) }
+{
+    let (len, rest) = u32_at(bytes, end)?;
+    let len = len as usize;
+    if len == 0 || rest.len() < len {
+        return Err(BsonFault::BadLength {
+            at: end - bytes.len(),
+        });
+    }
+    if rest[len - 1] != 0 {
+        return Err(BsonFault::BadLength {
+            at: end - bytes.len(),
+        });
+    }
+    Ok((&rest[..len - 1], &rest[len..]))
+}
+
+#[inline(always)]
+fn object_id_of(bytes: &[u8], end: usize) -> Result<(&[u8], &[u8]), BsonFault>
+    requires { length bytes.now ≤ end }
+    ensures gives { Is (λ x. (x.0.now, x.1.now)) result (bytes_at 12 end bytes.now) }
+    ensures left { IfOk result (λ x. length x.1.now < length bytes.now) }
+{
+    if bytes.len() < 12 {
+        return Err(BsonFault::BadLength {
+            at: end - bytes.len(),
+        });
+    }
+    Ok(bytes.split_at(12))
+}
+
+#[tactic(auto, unfolding(crate::specs::Reading::binary_at))]
+#[inline(always)]
+fn binary_of(bytes: &[u8], end: usize) -> Result<(u8, &[u8], &[u8]), BsonFault>
+    requires { length bytes.now ≤ end }
+    ensures gives { Is (λ x. ((x.0, x.1.now), x.2.now)) result (binary_at end bytes.now) }
+    ensures left { IfOk result (λ x. length x.2.now < length bytes.now) }
+{
+    let (len, rest) = u32_at(bytes, end)?;
+    let len = len as usize;
+    if rest.len() < len + 1 {
+        return Err(BsonFault::BadLength {
+            at: end - bytes.len(),
+        });
+    }
+    let subtype = rest[0];
+    let (front, rest) = rest[1..].split_at(len);
+    Ok((subtype, front, rest))
+}
+
+#[tactic(auto, unfolding(crate::specs::Reading::boolean_at))]
+#[inline(always)]
+fn boolean_of(bytes: &[u8], end: usize) -> Result<(bool, &[u8]), BsonFault>
+    requires { length bytes.now ≤ end }
+    ensures gives { Is (λ x. (x.0, x.1.now)) result (boolean_at end bytes.now) }
+    ensures left { IfOk result (λ x. length x.1.now < length bytes.now) }
+{
+    match bytes {
+        [] => Err(BsonFault::BadLength { at: end }),
+        [0, rest @ ..] => Ok((false, rest)),
+        [1, rest @ ..] => Ok((true, rest)),
+        [byte, ..] => Err(BsonFault::BadType {
+            at: end - bytes.len(),
+            byte: *byte,
+        }),
+    }
+}
+
+#[inline(always)]
+pub(crate) fn kind_of(bytes: &[u8], start: usize, end: usize) -> Result<(Kind, &[u8]), BsonFault>
+    requires { length bytes.now ≤ end }
+    ensures gives { Is (λ x. (x.0, x.1.now)) result (type_at start end bytes.now) }
+    ensures left { IfOk result (λ x. length x.1.now < length bytes.now) }
+{
+    match bytes {
+        [] => Err(BsonFault::BadLength { at: start }),
+        [byte, rest @ ..] => {
+            if *byte == 0 {
+                return Err(BsonFault::BadLength { at: start });
+            }
+            match from_byte(*byte) {
+                None => Err(BsonFault::BadType {
+                    at: end - bytes.len(),
+                    byte: *byte,
+                }),
+                Some(kind) => Ok((kind, rest)),
+            }
+        }
+    }
+}
+
+/// How many bytes a document or array inside has.
+#[tactic(auto, unfolding(crate::specs::Reading::len_at))]
+#[inline(always)]
+fn len_of(bytes: &[u8], end: usize) -> Result<usize, BsonFault>
+    requires { length bytes.now ≤ end }
+    ensures framed { IfOk result (λ n. IsFramed (take n bytes.now) × (n ≤ length bytes.now)) }
+    ensures gives { Is (λ n. n) result (len_at end bytes.now) }
+{
+    let (len, _) = u32_at(bytes, end)?;
+    let len = len as usize;
+    if len < EMPTY_LEN || bytes.len() < len {
+        return Err(BsonFault::BadLength {
+            at: end - bytes.len(),
+        });
+    }
+    Ok(len)
+}
+
+/// The bytes of a document or array inside.
+#[tactic(auto, unfolding(crate::specs::Piece::framed_at))]
+#[inline(always)]
+fn framed_of(bytes: &[u8], end: usize) -> Result<(&[u8], &[u8]), BsonFault>
+    requires { length bytes.now ≤ end }
+    ensures gives { Is (λ x. (x.0.now, x.1.now)) result (framed_at end bytes.now) }
+    ensures framed { IfOk result (λ x. IsFramed x.0.now) }
+    ensures left { IfOk result (λ x. length x.1.now + length x.0.now ≤ length bytes.now) }
+{
+    let len = len_of(bytes, end)?;
+    Ok(bytes.split_at(len))
+}
+
+#[tactic(auto, unfolding(crate::specs::Piece::piece_at))]
+#[inline(always)]
+pub(crate) fn value_of(kind: Kind, bytes: &[u8], end: usize) -> Result<(Raw<'_>, &[u8]), BsonFault>
+    requires { length bytes.now ≤ end }
+    ensures gives { Is (λ x. (piece x.0, x.1.now)) result (piece_at kind end bytes.now) }
+    ensures framed { IfOk result (λ x. IsPieceFramed (piece x.0)) }
+    ensures left { IfOk result (λ x. length x.1.now + piece_len (piece x.0) ≤ length bytes.now) }
+{
+    match kind {
+        Kind::Int32 => {
+            let (bits, rest) = u32_at(bytes, end)?;
+            Ok((Raw::Int32(bits.cast_signed()), rest))
+        }
+        Kind::Int64 => {
+            let (bits, rest) = u64_at(bytes, end)?;
+            Ok((Raw::Int64(bits.cast_signed()), rest))
+        }
+        Kind::Date => {
+            let (bits, rest) = u64_at(bytes, end)?;
+            Ok((Raw::Date(bits.cast_signed()), rest))
+        }
+        Kind::Timestamp => {
+            let (increment, rest) = u32_at(bytes, end)?;
+            let (seconds, rest) = u32_at(rest, end)?;
+            Ok((Raw::Timestamp { seconds, increment }, rest))
+        }
+        Kind::ObjectId => {
+            let (id, rest) = object_id_of(bytes, end)?;
+            Ok((Raw::ObjectId(id), rest))
+        }
+        Kind::Binary => {
+            let (subtype, bytes, rest) = binary_of(bytes, end)?;
+            Ok((Raw::Binary { subtype, bytes }, rest))
+        }
+        Kind::Boolean => {
+            let (set, rest) = boolean_of(bytes, end)?;
+            Ok((Raw::Boolean(set), rest))
+        }
+        Kind::Null => Ok((Raw::Null, bytes)),
+        Kind::MinKey => Ok((Raw::MinKey, bytes)),
+        Kind::MaxKey => Ok((Raw::MaxKey, bytes)),
+        Kind::String => {
+            let (text, rest) = text_of(bytes, end)?;
+            Ok((Raw::String(text), rest))
+        }
+        Kind::Document => {
+            let (document, rest) = framed_of(bytes, end)?;
+            Ok((Raw::Document(document), rest))
+        }
+        Kind::Array => {
+            let (list, rest) = framed_of(bytes, end)?;
+            Ok((Raw::Array(list), rest))
+        }
+    }
+}
+
+/// An element with no look inside its value.
+#[tactic(auto, unfolding(crate::specs::Piece::head_at))]
+#[inline(always)]
+pub(crate) fn head_of(
+    bytes: &[u8],
+    start: usize,
+    end: usize,
+    due: Option<usize>,
+) -> Result<(Head<'_>, &[u8]), BsonFault>
+    requires { length bytes.now ≤ end }
+    ensures gives { Is (λ x. ((x.0.name.now, piece x.0.value), x.1.now)) result (head_at due start end bytes.now) }
+    ensures framed { IfOk result (λ x. IsPieceFramed (piece x.0.value)) }
+    ensures left { IfOk result (λ x. length x.1.now + piece_len (piece x.0.value) < length bytes.now) }
+{
+    let (kind, rest) = kind_of(bytes, start, end)?;
+    let (name, rest) = name_of(rest, end, due)?;
+    let (value, rest) = value_of(kind, rest, end)?;
+    Ok((Head { name, value }, rest))
+}
+
+/// An element, where neither its name nor its value is looked at inside.
+#[tactic(auto, unfolding(crate::specs::Piece::cut_at))]
+#[inline(always)]
+pub(crate) fn cut_of(bytes: &[u8], end: usize) -> Result<(Head<'_>, &[u8]), BsonFault>
+    requires { length bytes.now ≤ end }
+    ensures gives { Is (λ x. ((x.0.name.now, piece x.0.value), x.1.now)) result (cut_at end bytes.now) }
+    ensures left { IfOk result (λ x. length x.1.now + piece_len (piece x.0.value) < length bytes.now) }
+{
+    let (kind, rest) = kind_of(bytes, 0, end)?;
+    match zero_in(rest) {
+        None => Err(BsonFault::BadLength {
+            at: end - rest.len(),
+        }),
+        Some(n) => {
+            let (value, behind) = value_of(kind, &rest[n + 1..], end)?;
+            let name = &rest[..n];
+            Ok((Head { name, value }, behind))
+        }
+    }
+}
