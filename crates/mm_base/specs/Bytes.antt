@@ -1,13 +1,6 @@
--- A part of some bytes, and the bytes with a part written over.
-use Rattle.std.specs.Prelude.{◌≡◌, ℕ, ◌+◌, ◌-◌, ◌≤◌, List, ◌++◌, length, take, drop, replicate}
-
--- the n bytes from this offset on
-unfoldable pub part : ℕ → ℕ → List ℕ → List ℕ
-part at n bytes = take n (drop at bytes)
-
--- the same bytes with others from this offset on
-unfoldable pub overwritten : ℕ → List ℕ → List ℕ → List ℕ
-overwritten at new bytes = take at bytes ++ (new ++ drop (length new) (drop at bytes))
+-- What a writer changes of some bytes, and zeros behind a name.
+use Rattle.std.specs.Prelude.{◌≡◌, ℕ, ◌+◌, ◌-◌, ◌≤◌, List, ◌++◌, length, replicate}
+unfoldable pub use Rattle.mm_bytes.specs.Parts.{part, overwritten}
 
 -- each part that lies before these n bytes, or behind them, is the same
 pub record SameOutside (at n : ℕ) (old new : List ℕ) : Type 0 where

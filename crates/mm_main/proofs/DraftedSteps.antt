@@ -1,12 +1,13 @@
 -- Bytes of the data file that are written in a draft.
-use Rattle.std.proofs.Common.{◌≡◌, ℕ, pos, negsuc, ◌+◌, ◌-◌, ◌<◌, ◌≤◌, true, false, List, [], ◌∷◌, ◌++◌, length, take, drop, replicate, refl, sym, ap, ◌∙◌, arith, subst, append-nil, append_assoc, Result}
+use Rattle.std.proofs.Common.{◌≡◌, ℕ, pos, negsuc, ◌+◌, ◌-◌, ◌<◌, ◌≤◌, true, false, List, [], ◌∷◌, ◌++◌, length, take, drop, refl, sym, ap, ◌∙◌, arith, subst, Result}
 use Rattle.std.specs.Prelude.{OnOk}
-use Rattle.std.proofs.lemmas.List.{drop-drop, take-append-drop}
+use Rattle.std.proofs.lemmas.List.{take-append-drop}
 use Rattle.std.proofs.lemmas.Result.{on_ok_weaker}
 use Rattle.mm_base.specs.Bytes.{part, overwritten}
 use Rattle.mm_base.specs.Tables.{Cell, HasAll, AllInRange, tiles, joined}
 use Rattle.mm_base.proofs.Parts.{length-overwritten, part_before, part_behind, part_front}
-use Rattle.mm_ranges.specs.Bytes.{read_from, overwritten as laid_on}
+use Rattle.mm_bytes.specs.Files.{read_from}
+use Rattle.mm_bytes.proofs.Agree.{same_overwritten}
 use Rattle.mm_ranges.specs.Overlay.{laid}
 use Rattle.mm_ranges.specs.Places.{Range, Covers}
 use Rattle.mm_ranges.proofs.Overlaying.{bytes_at-laid}
@@ -18,16 +19,6 @@ use Rattle.mm_main.specs.DataFile.{linked}
 use Rattle.mm_main.specs.Drafted.{drafted, Keeps, IsLaid, LeadsOn}
 use Rattle.mm_main.specs.Written.{SameBefore, SameBehind}
 use Rattle.mm_main.proofs.FrameSteps.{has_put}
-
-none_of : (n : ℕ) → n ≡ 0 → replicate {A = ℕ} n 0 ≡ []
-none_of n is = ap (λ (k : ℕ). replicate {A = ℕ} k 0) is
-
--- inside a file, bytes are laid over it as they are written
-same_laid : (at : ℕ) (bytes old : List ℕ) → at ≤ length old → laid_on at bytes old ≡ overwritten at bytes old
-unfolding overwritten
-same_laid at bytes old inside =
-    let front : take at old ++ replicate {A = ℕ} (at - length old) 0 ≡ take at old = ap (λ (xs : List ℕ). take at old ++ xs) (none_of (at - length old) (omega (arith, inside))) ∙ append-nil (take at old) in
-    append_assoc (take at old ++ replicate {A = ℕ} (at - length old) 0) bytes (drop (at + length bytes) old) ∙ ap (λ (xs : List ℕ). xs ++ (bytes ++ drop (at + length bytes) old)) front ∙ ap (λ (xs : List ℕ). take at old ++ (bytes ++ xs)) (sym (drop-drop (length bytes) at old))
 
 nothing : (payload : List ℕ) → length payload ≡ 0 → payload ≡ []
 nothing [] none = refl
@@ -53,7 +44,7 @@ is_laid old new at (byte ∷ bytes) inside some none = subst (λ (d : Drafting).
 })
   where
     written : drafted (record old { image = laid 0 at (byte ∷ bytes) old.image; is_reserved = false }) ≡ overwritten at (byte ∷ bytes) (drafted old)
-    written = bytes_at-laid 0 at (byte ∷ bytes) old.image ∙ same_laid at (byte ∷ bytes) (drafted old) (omega (arith, inside))
+    written = bytes_at-laid 0 at (byte ∷ bytes) old.image ∙ same_overwritten at (byte ∷ bytes) (drafted old) (omega (arith, inside))
 
 -- a part of what is declared is declared
 pub covers_part : (rs : List Range) (file at len from n : ℕ) → at ≤ from → from + n ≤ at + len → Covers rs file at len → Covers rs file from n

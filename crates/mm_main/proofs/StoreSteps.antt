@@ -4,7 +4,7 @@ use Rattle.std.specs.FinMap.{get, insert, get-empty}
 use Rattle.std.specs.Ordering.{nat_cmp}
 use Rattle.std.proofs.Math.Seq.{take-add}
 use Rattle.std.proofs.lemmas.List.{take_all, length-replicate, length-take}
-use Rattle.mm_ranges.specs.Bytes.{read_from}
+use Rattle.mm_bytes.specs.Files.{read_from}
 use Rattle.mm_views.specs.State.{Drafting, no_views, drafting_of}
 use Rattle.mm_views.proofs.Making.{get-put}
 use Rattle.mm_bson.specs.Tree.{Elements}

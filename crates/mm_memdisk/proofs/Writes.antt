@@ -4,7 +4,7 @@ use Rattle.std.specs.Prelude.{replicate}
 use Rattle.std.proofs.Math.Seq.{take-append-add, drop-append-add}
 use Rattle.std.proofs.lemmas.Bool.{cases_lt}
 use Rattle.std.proofs.lemmas.List.{append-nil, drop_all, take_all, take-append-le, drop-append-le, take-replicate, drop-replicate}
-use Rattle.mm_outside.specs.Image.{resized, overwritten}
+use Rattle.mm_bytes.specs.Files.{resized, overwritten}
 
 resized-longer : (n : ℕ) (old : List ℕ) → length old ≤ n → resized n old ≡ old ++ replicate (n - length old) 0
 resized-longer n old fits = ap (λ (l : List ℕ). l ++ replicate (n - length old) 0) (take_all n old fits)

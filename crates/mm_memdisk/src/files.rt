@@ -1,7 +1,8 @@
 // The files by name, and what each changing call does to them.
 ghost use Rattle.std.specs.Prelude.{◌≡◌, ◌+◌, ◌-◌, ◌^◌, ◌<◌, ◌≤◌, ◌++◌, min, map, take, drop, length, string_bytes, IfOk, OnOk, OnErr};
 ghost use Rattle.std.specs.FinMap.{keys as names_of};
-ghost use Rattle.mm_outside.specs.Image.{Image, read_from, resized, overwritten};
+ghost use Rattle.mm_bytes.specs.Files.{read_from, resized, overwritten};
+ghost use Rattle.mm_outside.specs.Image.{Image};
 ghost use Rattle.mm_outside.specs.Told.{changed, Creates, Writes, Resizes, Removes};
 ghost use Rattle.mm_memdisk.specs.Files.{Reads, Follows};
 

@@ -1,11 +1,10 @@
 -- What is read of a node, and what is written into one.
 use Rattle.std.proofs.Common.{◌≡◌, ℕ, ◌+◌, ◌-◌, ◌*◌, ◌<◌, ◌≤◌, List, [], ◌++◌, length, take, drop, Option, refl, sym, ◌∙◌, ap, subst, arith, append_assoc}
-use Rattle.std.proofs.lemmas.List.{append-nil, drop-drop}
-use Rattle.std.specs.Prelude.{replicate, unwrap_or}
+use Rattle.std.specs.Prelude.{unwrap_or}
 use Rattle.mm_base.specs.Bytes.{part, overwritten}
 use Rattle.mm_base.proofs.Parts.{length-part, part_whole, part_front, part-part, part_before, part-overwritten, overwritten_whole}
-use Rattle.mm_ranges.specs.Bytes.{resized, read_from}
-use Rattle.mm_ranges.specs.Bytes as ranges
+use Rattle.mm_bytes.specs.Files.{read_from}
+use Rattle.mm_bytes.proofs.Agree.{read_part, same_overwritten}
 use Rattle.mm_ranges.specs.declared.limits.TheConstants.{NS_FILE}
 use Rattle.mm_ranges.proofs.Overlaying.{get-laid}
 use Rattle.mm_views.specs.State.{Drafting}
@@ -18,10 +17,6 @@ use Rattle.mm_nstable.specs.Changes.{ns_of, written_at}
 use Rattle.mm_nstable.proofs.Stored.{node_inside, IsStored, stored_at}
 
 -- ---- reading
-
-read_part : (a m : ℕ) (xs : List ℕ) → read_from a m xs ≡ part a m xs
-unfolding part
-read_part a m xs = refl
 
 pub head_is : (ns buf : List ℕ) (at k n : ℕ) (r : NodeHead) → k < count_of ns → at ≡ 628 * k → n ≡ 132 → buf ≡ read_from at n ns → r ≡ node_head_of (part 0 132 buf) → r ≡ head_in (node_at ns k)
 unfolding head_in
@@ -36,17 +31,6 @@ details_are ns buf at k n r lt e en is r_is =
     r_is ∙ ap details_of (ap (part 0 496) (is ∙ read_part (at + 132) n ns ∙ ap (λ (a : ℕ). part (a + 132) n ns) e ∙ ap (λ (m : ℕ). part (628 * k + 132) m ns) en) ∙ part_whole 496 (part (628 * k + 132) 496 ns) (length-part (628 * k + 132) 496 ns (omega arith)) ∙ sym (part-part 132 496 (628 * k) 628 ns (omega arith)))
 
 -- ---- writing
-
-same_overwritten : (at : ℕ) (bytes old : List ℕ) → at ≤ length old → ranges.overwritten at bytes old ≡ overwritten at bytes old
-unfolding overwritten
-same_overwritten at bytes old le =
-    let none : at - length old ≡ 0 = omega arith in
-    let front : resized at old ≡ take at old = ap (λ (n : ℕ). take at old ++ replicate n 0) none ∙ append-nil (take at old) in
-    ap (λ (xs : List ℕ). xs ++ bytes ++ drop (at + length bytes) old) front ∙ append_assoc (take at old) bytes (drop (at + length bytes) old)
-    ∙ ap (λ (xs : List ℕ). take at old ++ (bytes ++ xs)) (dropped at (length bytes) old)
-  where
-    dropped : (a b : ℕ) (xs : List ℕ) → drop (a + b) xs ≡ drop b (drop a xs)
-    dropped a b xs = sym (drop-drop b a xs)
 
 ns_written : (d : Drafting) (at : ℕ) (bytes : List ℕ) → at ≤ length (ns_of d) → ns_of (written_at at bytes d) ≡ overwritten at bytes (ns_of d)
 ns_written d at bytes le = ap (λ (o : Option (List ℕ)). unwrap_or o []) (get-laid NS_FILE at bytes d.image NS_FILE) ∙ same_overwritten at bytes (ns_of d) le

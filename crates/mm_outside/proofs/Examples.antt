@@ -2,7 +2,7 @@
 use Rattle.std.proofs.Common.{◌≡◌, ℕ, zero, suc, ◌<◌, true, false, List, [], ◌∷◌, Option, Some, None, refl, sym, arith}
 use mathlib.Core.Bool.{true≢false}
 use Rattle.std.specs.Prelude.{slice_index}
-use Rattle.mm_outside.specs.Image.{resized, overwritten}
+use Rattle.mm_bytes.specs.Files.{resized, overwritten}
 use Rattle.mm_outside.specs.Told.{MayLeaveFile, is_in, Creates, Writes, Syncs, Removes}
 use Rattle.mm_outside.specs.Place.{Place, place_by, clean}
 

@@ -10,7 +10,7 @@ use Rattle.mm_outside.specs.Image.{Image}
 use Rattle.mm_outside.specs.Told.{Change, Call, Told, Pending, called, image_after, image_of, pending_by, pending_after, nothing_pending, MayLeaveFile, MayLeave, left_after, Creates, Writes, Resizes, Syncs, Removes}
 use Rattle.mm_outside.specs.Crash.{file_after}
 use Rattle.mm_outside.specs.Place.{Place, place_of, place_by}
-use Rattle.mm_outside.proofs.Bytes.{get_or-resized, length-resized, get_or-overwritten, length-overwritten}
+use Rattle.mm_bytes.proofs.Files.{get_or-resized, length-resized, get_or-overwritten, length-overwritten}
 use Rattle.mm_outside.proofs.Places.{place_step}
 
 -- the file's length lies between those that are pending

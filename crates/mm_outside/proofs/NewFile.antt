@@ -8,7 +8,7 @@ use Rattle.mm_outside.specs.Image.{Image, name_cmp}
 use Rattle.mm_outside.specs.Told.{Told, called, image_of, MayLeave, Creates, Writes, Syncs}
 use Rattle.mm_outside.specs.Place.{Place, place_of, place_by, clean, IsClean}
 use Rattle.mm_outside.specs.Ask.{asked, new_file_asks}
-use Rattle.mm_outside.proofs.Bytes.{overwritten_nothing}
+use Rattle.mm_bytes.proofs.Files.{overwritten_nothing}
 use Rattle.mm_outside.proofs.Places.{one_name, apart, place_here}
 use Rattle.mm_outside.proofs.Cuts.{spared_asked}
 use Rattle.mm_outside.proofs.CleanPlaces.{same_image, clean_as_read, left_clean_image}

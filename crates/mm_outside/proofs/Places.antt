@@ -10,7 +10,8 @@ use Rattle.std.specs.Ordering.{is_eq, eq_by_cmp}
 use Rattle.std.specs.Cmp.{tied_itself}
 use Rattle.std.specs.Cmp.Lexicographic.{nat_list_cmp_total}
 use Rattle.std.specs.FinMap.{get, insert, get-insert, get-remove, nat_cmp-IsAntisymmetric, slice_cmp-IsAntisymmetric}
-use Rattle.mm_outside.specs.Image.{Image, name_cmp, resized, overwritten}
+use Rattle.mm_bytes.specs.Files.{resized, overwritten}
+use Rattle.mm_outside.specs.Image.{Image, name_cmp}
 use Rattle.mm_outside.specs.Told.{Change, Told, Pending, called, changed, image_of, Becomes, pending_by, pending_of, MayLeaveFile, MayLeave, Creates, Writes, Resizes, Syncs, Removes}
 use Rattle.mm_outside.specs.Crash.{file_after}
 use Rattle.mm_outside.specs.Place.{Place, place_of, place_by, under_way_by, under_way, settled_by, settled}

@@ -1,6 +1,7 @@
 -- Words for what a run of calls does, and what a crash within it leaves.
 use Rattle.std.specs.Prelude.{◌≡◌, ℕ, ◌<◌, ◌≤◌, List, [], length, Option, None, Some}
-use Rattle.mm_outside.specs.Image.{Image, overwritten, resized}
+use Rattle.mm_bytes.specs.Files.{overwritten, resized}
+use Rattle.mm_outside.specs.Image.{Image}
 use Rattle.mm_outside.specs.Told.{Change, Told, Left, Creates, Writes, Resizes, Syncs, Removes}
 
 -- Where the disk tells before the run, it tells after it, and P holds of both.

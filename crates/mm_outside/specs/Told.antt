@@ -4,7 +4,8 @@ use Rattle.std.specs.Option.{option_map_or}
 use Rattle.std.specs.Bool.{MatchBool}
 use Rattle.std.specs.Ordering.{eq_by_cmp}
 use Rattle.std.specs.FinMap.{get, insert, remove}
-use Rattle.mm_outside.specs.Image.{name_cmp, Image, bytes_at, resized, overwritten, with_file}
+use Rattle.mm_bytes.specs.Files.{resized, overwritten}
+use Rattle.mm_outside.specs.Image.{name_cmp, Image, bytes_at, with_file}
 use Rattle.mm_outside.specs.declared.disk.Device.{Device}
 use Rattle.mm_outside.specs.declared.disk.Device.TheVariants.{Fault, NoMemory}
 

@@ -3,7 +3,8 @@ ghost use Rattle.std.specs.Option.{option_map};
 ghost use Rattle.std.specs.FinMap.{get, keys};
 ghost use Rattle.mm_outside.specs.declared.disk.Device.TheVariants.{Fault, NoMemory};
 ghost use Rattle.mm_outside.specs.Fault.{HasCause};
-ghost use Rattle.mm_outside.specs.Image.{bytes_at, read_from};
+ghost use Rattle.mm_bytes.specs.Files.{read_from};
+ghost use Rattle.mm_outside.specs.Image.{bytes_at};
 ghost use Rattle.mm_outside.specs.Told.{Told, Becomes, IfTold, Counts, told_after, image_of, Creates, Writes, Resizes, Syncs, Removes};
 
 use std::alloc::{AllocError, AllocFailed};

@@ -7,11 +7,12 @@ use Rattle.std.specs.FinMap.{get, same_map, nat_cmp-IsAntisymmetric}
 use Rattle.std.proofs.lemmas.Bool.{eqb-true, eq-eqb}
 use Rattle.std.proofs.lemmas.Bool.Decides.{nat_tests}
 use Rattle.std.proofs.lemmas.List.{ext_get_or}
-use Rattle.mm_ranges.specs.Bytes.{overwritten}
+use Rattle.mm_bytes.specs.Files.{overwritten}
 use Rattle.mm_ranges.specs.Places.{is_in}
 use Rattle.mm_ranges.specs.Overlay.{Image, bytes_at, byte_at, laid, laid_over, last_byte, last_end, has_piece, LiesOver}
 use Rattle.mm_ranges.specs.declared.part.Piece.{Piece}
-use Rattle.mm_ranges.proofs.Overlaying.{get-laid, get_or-overwritten, get_or-overwritten_in, length-overwritten}
+use Rattle.mm_bytes.proofs.Files.{get_or-overwritten, get_or-overwritten_in, length-overwritten}
+use Rattle.mm_ranges.proofs.Overlaying.{get-laid}
 
 module _ (p : Piece) (image : Image) where
   own : Bool → ℕ → Option ℕ

@@ -4,7 +4,7 @@ use Rattle.std.specs.Option.{option_or}
 use Rattle.std.specs.declared.cmp.Ordering.{Ordering}
 use Rattle.std.specs.Ordering.{nat_cmp}
 use Rattle.std.specs.FinMap.{FinMap, get, insert}
-use Rattle.mm_ranges.specs.Bytes.{overwritten, read_from}
+use Rattle.mm_bytes.specs.Files.{overwritten, read_from}
 use Rattle.mm_ranges.specs.Places.{Range, is_in, is_covered}
 use Rattle.mm_ranges.specs.declared.part.Piece.{Piece}
 use Rattle.mm_ranges.specs.declared.part.Made.{Made}

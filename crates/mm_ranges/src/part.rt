@@ -1,6 +1,6 @@
 // What a group changed in a database: the files that it made, and bytes at places.
 ghost use Rattle.std.specs.Prelude.{◌≡◌, ◌+◌, ◌≤◌, ◌↔◌, [], IsTrue, length};
-ghost use Rattle.mm_ranges.specs.Bytes.{overwritten};
+ghost use Rattle.mm_bytes.specs.Files.{overwritten};
 ghost use Rattle.mm_ranges.specs.Overlay.{Image, laid_over, LiesOver};
 
 use std::marker::Model;

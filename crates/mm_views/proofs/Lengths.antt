@@ -6,13 +6,14 @@ use Rattle.std.specs.Prelude.{◌==◌, ◌&&◌, unwrap_or, IsSome}
 use Rattle.std.specs.Option.{option_map}
 use Rattle.std.specs.List.{list_all}
 use Rattle.std.specs.FinMap.{get, insert}
-use Rattle.mm_ranges.specs.Bytes.{overwritten}
+use Rattle.mm_bytes.specs.Files.{overwritten}
 use Rattle.mm_ranges.specs.Places.{Range, is_covered}
 use Rattle.mm_ranges.specs.Limits.{is_file, most_of, is_allowed, is_rising}
 use Rattle.mm_ranges.specs.Overlay.{Image, bytes_at, laid, laid_over, with_made, SameOutside, FileSame, AreInside}
 use Rattle.mm_ranges.specs.declared.part.Piece.{Piece}
 use Rattle.mm_ranges.specs.declared.part.Made.{Made}
-use Rattle.mm_ranges.proofs.Overlaying.{get-laid, length-overwritten}
+use Rattle.mm_bytes.proofs.Files.{length-overwritten}
+use Rattle.mm_ranges.proofs.Overlaying.{get-laid}
 use Rattle.mm_views.specs.Made.{is_made, AreNew}
 use Rattle.mm_views.specs.State.{PiecesInside, FileAllowed, KeepsLimits}
 use Rattle.mm_views.proofs.Making.{get-put, get-with_made, same_image, zeros_of}

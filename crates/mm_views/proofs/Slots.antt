@@ -9,7 +9,7 @@ use Rattle.std.specs.Ordering.{nat_cmp}
 use Rattle.std.specs.Cmp.{nat_cmp_total, unsigned_tied}
 use Rattle.std.specs.FinMap.{get, insert, remove, get-insert, get-remove, get-empty, same_map, nat_cmp-IsAntisymmetric}
 use Rattle.mm_ranges.specs.Limits.{is_file}
-use Rattle.mm_ranges.specs.Bytes.{overwritten}
+use Rattle.mm_bytes.specs.Files.{overwritten}
 use Rattle.mm_ranges.specs.Overlay.{Image, laid}
 use Rattle.mm_views.specs.Files.{number_of, slot_of, with_slot, image_from, image_of}
 

@@ -7,7 +7,7 @@ use Rattle.std.specs.Prelude.{◌==◌, ◌||◌, ◌&&◌, nat_le, nat_lt, unwr
 use Rattle.std.specs.FinMap.{get, insert, empty, get-empty}
 use Rattle.std.specs.List.{list_all}
 use Rattle.std.specs.Ordering.{nat_cmp}
-use Rattle.mm_ranges.specs.Bytes.{overwritten, read_from}
+use Rattle.mm_bytes.specs.Files.{overwritten, read_from}
 use Rattle.mm_ranges.specs.Limits.{is_file, most_of, is_allowed, is_rising, may_be_made, IsAllowed}
 use Rattle.mm_ranges.specs.Places.{Range, is_in, is_covered, is_range, is_normal, Covers, inserted, merged}
 use Rattle.mm_ranges.specs.Overlay.{Image, bytes_at, laid, laid_over, with_made, over, over_all, piece_of, pieces_of, ranges_of, SameOutside, FileSame, AreInside, IsInside}
@@ -16,7 +16,8 @@ use Rattle.mm_ranges.specs.declared.part.Made.{Made}
 use Rattle.mm_ranges.specs.declared.part.Part.{Part}
 use Rattle.mm_ranges.proofs.Order.{normal_parts, range_from, spaced_of_normal}
 use Rattle.mm_ranges.proofs.Inserting.{covered-inserted, covered-merged, is_normal-inserted, is_normal-merged}
-use Rattle.mm_ranges.proofs.Overlaying.{get-laid, length-overwritten, laid_whole, laid_own, laid_covered, laid_over_same, ranges_of-pieces_of, same_outside_trans, same_outside_weaker, same_outside_refl, same_outside_sym, same_outside_none}
+use Rattle.mm_bytes.proofs.Files.{length-overwritten}
+use Rattle.mm_ranges.proofs.Overlaying.{get-laid, laid_whole, laid_own, laid_covered, laid_over_same, ranges_of-pieces_of, same_outside_trans, same_outside_weaker, same_outside_refl, same_outside_sym, same_outside_none}
 use Rattle.mm_views.specs.Made.{is_made, with_one, with_all, without_made, made_in}
 use Rattle.mm_views.specs.State.{State, Drafting, part_of, drafting_of, closed_from, applied_with, ranges_in, IsCovered, PiecesInside, PartFits, PartsFit, FileAllowed, KeepsLimits, AreMade, IsSound, IsDraft}
 use Rattle.mm_views.proofs.Making.{get-with_made, without_made-with_made, is_made-with_one, is_rising-with_one, allowed-with_one, with_made-with_one, is_made-with_all, is_rising-with_all, allowed-with_all, with_made-with_all, AreApart, same_made, zeros_of}

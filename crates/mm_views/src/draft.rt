@@ -2,7 +2,7 @@
 ghost use Rattle.std.specs.Prelude.{◌≡◌, ℕ, ◌||◌, ◌+◌, ◌^◌, ◌<◌, ◌≤◌, ◌%◌, true, false, [], ◌∷◌, None, length, replicate, reverse, OnOk, OnErr, IfOk, IsTrue};
 ghost use Rattle.std.specs.Option.{option_map};
 ghost use Rattle.std.specs.FinMap.{get, insert};
-ghost use Rattle.mm_ranges.specs.Bytes.{read_from};
+ghost use Rattle.mm_bytes.specs.Files.{read_from};
 ghost use Rattle.mm_ranges.specs.Limits.{is_file, most_of};
 ghost use Rattle.mm_ranges.specs.Places.{Covers, inserted, is_covered, is_in};
 ghost use Rattle.mm_ranges.specs.Overlay.{bytes_at, laid, laid_over};

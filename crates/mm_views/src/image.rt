@@ -2,7 +2,7 @@
 ghost use Rattle.std.specs.Prelude.{◌≡◌, ℕ, ◌+◌, ◌-◌, ◌^◌, ◌<◌, ◌≤◌, List, [], ◌∷◌, length, take, drop, slice_set, Option, Some, None, IsSome, IsTrue, IfSome, IfNone};
 ghost use Rattle.std.specs.Option.{option_map, option_copied};
 ghost use Rattle.std.specs.FinMap.{get, insert, remove, empty};
-ghost use Rattle.mm_ranges.specs.Bytes.{overwritten, read_from};
+ghost use Rattle.mm_bytes.specs.Files.{overwritten, read_from};
 ghost use Rattle.mm_ranges.specs.Limits.{is_file};
 ghost use Rattle.mm_ranges.specs.Overlay.{bytes_at, laid};
 ghost use Rattle.mm_views.specs.Files.{image_of, slot_of};

@@ -2,7 +2,7 @@
 ghost use Rattle.std.specs.Prelude.{◌≡◌, ◌+◌, ◌^◌, ◌<◌, ◌≤◌, true, false, [], length, replicate, IsSome, OnOk, OnErr, IsTrue};
 ghost use Rattle.std.specs.Option.{option_map};
 ghost use Rattle.std.specs.FinMap.{get, insert};
-ghost use Rattle.mm_ranges.specs.Bytes.{read_from};
+ghost use Rattle.mm_bytes.specs.Files.{read_from};
 ghost use Rattle.mm_ranges.specs.Limits.{is_file, most_of, IsAllowed};
 ghost use Rattle.mm_ranges.specs.Overlay.{bytes_at, laid, over_all, ranges_of};
 ghost use Rattle.mm_views.specs.State.{no_views, part_of, closed_from, applied, IsRemapped, IsCovered, PartFits, FileAllowed, weight_in};

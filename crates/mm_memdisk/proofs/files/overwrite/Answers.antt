@@ -1,7 +1,7 @@
 use Rattle.std.proofs.Common.{rules, arith, ◌≡◌, ◌+◌, ◌-◌, ◌++◌, ℕ, max, take, drop, length, ◌∙◌, ap}
 use Rattle.std.proofs.lemmas.Grind.{common_steps}
 use Rattle.std.specs.Prelude.{replicate}
-use Rattle.mm_outside.specs.Image.{resized}
+use Rattle.mm_bytes.specs.Files.{resized}
 use Rattle.mm_memdisk.proofs.Writes.{put_over}
 use Rattle.mm_memdisk.proofs.files.overwrite.Goals as goal
 

@@ -1,7 +1,7 @@
 use Rattle.std.proofs.Common.{◌≡◌, Some, rules}
 use Rattle.std.specs.BTreeMap.{get_by_text}
 use Rattle.std.proofs.lemmas.Result.{on_ok_weaker, on_err_weaker}
-use Rattle.mm_outside.specs.Image.{resized}
+use Rattle.mm_bytes.specs.Files.{resized}
 use Rattle.mm_memdisk.proofs.Updates.{rewritten, kept}
 use Rattle.mm_memdisk.proofs.files.set_len.Goals as goal
 
