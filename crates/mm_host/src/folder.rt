@@ -1,7 +1,8 @@
-ghost use Rattle.std.specs.Prelude.{◌≡◌, ◌+◌, ◌≤◌, Ok, Err, None, IfOk, OnOk, OnErr, IfErr, IsErrOf, IsSorted, string_bytes};
+ghost use Rattle.std.specs.Prelude.{◌≡◌, ◌<◌, ◌≤◌, ◌-◌, ◌^◌, Ok, Err, None, IfOk, OnOk, IfErr, IsErrOf, IsSorted, string_bytes};
 ghost use Rattle.std.proofs.lemmas.Option.{none-some};
 ghost use Rattle.mm_host.specs.Names.{IsFileName, path_below, root_of};
 ghost use Rattle.mm_outside.specs.Fault.{Rose, HasCause};
+ghost use Rattle.mm_outside.specs.Told.{Counts};
 ghost use Rattle.mm_outside.specs.declared.disk.Device.TheVariants.{Fault};
 
 use crate::faults::FaultCount;
@@ -15,11 +16,13 @@ use std::rt::Files;
 /// The files of a folder and, as `journal/NAME`, those of its subfolder `journal`.
 ///
 /// - A folder or a subfolder that is missing holds no files. `create` makes both, but no folder above them.
-/// - A creation and a removal are durable when the call returns: the folder itself has then been synced.
+/// - A creation and a removal are durable when the call returns: the folders have then been synced, those of a creation
+///   up to that which holds the disk's own, whoever made them. So that one has to be there, and to be readable.
 /// - A name is one part of a path, or `journal/` and one part. At any other, as at one with `..` in it, each call
-///   answers `Fault` before it begins, and asks the system nothing.
-/// - A link stands for what it leads to. What is no file, as a folder, is not among the names and has no length.
-///   A call that would read, make or change it answers `Fault`.
+///   answers `Fault`, and asks the system nothing. A changing call with such a name counts as begun, as at every fault.
+/// - A link stands for what it leads to, and a removal takes the link itself. What is no regular file, as a folder, a
+///   device or a FIFO, is not among the names and has no length. A call that would read, make, change or remove it answers
+///   `Fault`, and opens nothing. So does one at a link that leads nowhere.
 /// - A name in the folder that isn't UTF-8 can't be told, so `names` answers `Fault`.
 /// - Each error of the system is a fault, an interrupted read or write too. An absent file, where `Disk` says that it is
 ///   none, is not. After a fault within `write_at` some of the bytes may have been written.
@@ -65,7 +68,7 @@ impl<R: Files + AllocGlobal + Clone + Drop> FolderDisk<R> {
         format!(in self.rt.alloc(); "{root}/{name}")
     }
 
-    // The path of a file. A name that would reach out of the folder is a fault.
+    // The path of a file that is to be read. A name that would reach out of the folder is a fault.
     fn path(&mut self, name: &str) -> Result<String, Device>
         ensures name { OnOk result (IsFileName name.now) }
         ensures refused { IsErrOf result Fault → ¬ IsFileName name.now }
@@ -79,6 +82,27 @@ impl<R: Files + AllocGlobal + Clone + Drop> FolderDisk<R> {
         Ok(self.below_root(name)?)
     }
 
+    // A changing call begins, at the path of its file. Such a name is a fault here too, and so is a call past those that
+    // can be counted.
+    fn begin(&mut self, name: &str) -> Result<String, Device>
+        ensures name { OnOk result (IsFileName name.now) }
+        ensures refused { IsErrOf result Fault → self.old.begun < 2 ^ 64 - 1 → ¬ IsFileName name.now }
+        ensures path { IfOk result (λ path. string_bytes path ≡ path_below (root_of (string_bytes self.old.folder)) name.now) }
+        ensures moment { Counts self.old.begun self.new.begun result }
+        ensures cause { HasCause Fault self.old.fault_count.count self.new.fault_count.count result }
+    {
+        let path = self.below_root(name)?;
+        if self.begun == u64::MAX {
+            return Err(self.fault());
+        }
+        self.begun += 1;
+        if is_file_name(name) {
+            Ok(path)
+        } else {
+            Err(self.fault())
+        }
+    }
+
     fn fault(&mut self) -> Device
         ensures fault { result ≡ Fault }
         ensures rose { Rose self.old.fault_count.count self.new.fault_count.count }
@@ -87,20 +111,6 @@ impl<R: Files + AllocGlobal + Clone + Drop> FolderDisk<R> {
     {
         self.fault_count.rise();
         Device::Fault
-    }
-
-    // A changing call begins, unless as many have as can be counted.
-    fn begin(&mut self) -> Result<(), Device>
-        ensures begun { OnOk result (self.new.begun ≡ self.old.begun + 1) }
-        ensures full { OnErr result (self.new.begun ≡ self.old.begun) }
-        ensures fault { IfErr result (λ e. e ≡ Fault) }
-        ensures cause { HasCause Fault self.old.fault_count.count self.new.fault_count.count result }
-    {
-        if self.begun == u64::MAX {
-            return Err(self.fault());
-        }
-        self.begun += 1;
-        Ok(())
     }
 
     // What the system answered. Its error is a fault.
@@ -161,37 +171,32 @@ impl<R: Files + AllocGlobal + Clone + Drop> Disk for FolderDisk<R> {
     }
 
     fn create(&mut self, name: &str) -> Result<(), Device> {
-        let path = self.path(name)?;
         let above = self.below_root("..")?;
-        self.begin()?;
+        let path = self.begin(name)?;
         let made = files::create(&self.rt, above.as_str(), self.root(), path.as_str());
         self.answer(made)
     }
 
     fn write_at(&mut self, name: &str, at: u64, bytes: &[u8]) -> Result<(), Device> {
-        let path = self.path(name)?;
-        self.begin()?;
+        let path = self.begin(name)?;
         let written = files::write_at(&self.rt, path.as_str(), at, bytes);
         self.answer(written)
     }
 
     fn set_len(&mut self, name: &str, len: u64) -> Result<(), Device> {
-        let path = self.path(name)?;
-        self.begin()?;
+        let path = self.begin(name)?;
         let resized = files::set_len(&self.rt, path.as_str(), len);
         self.answer(resized)
     }
 
     fn sync(&mut self, name: &str) -> Result<(), Device> {
-        let path = self.path(name)?;
-        self.begin()?;
+        let path = self.begin(name)?;
         let synced = files::sync(&self.rt, path.as_str());
         self.answer(synced)
     }
 
     fn remove(&mut self, name: &str) -> Result<(), Device> {
-        let path = self.path(name)?;
-        self.begin()?;
+        let path = self.begin(name)?;
         let removed = files::remove(&self.rt, path.as_str());
         self.answer(removed)
     }

@@ -1,4 +1,4 @@
-ghost use Rattle.std.specs.Prelude.{◌≡◌, ◌+◌, ◌-◌, ◌<◌, ◌≤◌, ◌^◌, ◌++◌, ◌↔◌, Some, Err, [], length, take, drop, min, map, IsTrue, IsOk, OnOk, IfOk, Contains, string_bytes};
+ghost use Rattle.std.specs.Prelude.{◌≡◌, ◌+◌, ◌-◌, ◌<◌, ◌≤◌, ◌^◌, ◌++◌, ◌↔◌, Some, Err, [], length, take, drop, min, map, IsTrue, IsOk, OnOk, OnErr, IfOk, Contains, string_bytes};
 ghost use Rattle.std.specs.Option.{option_map};
 ghost use Rattle.std.specs.FinMap.{empty, get, keys};
 ghost use Rattle.mm_outside.specs.declared.disk.Device.TheVariants.{Fault};
@@ -131,13 +131,14 @@ impl Disk for MemDisk {
 
     fn names(&mut self, out: &mut Vec<String>) -> Result<(), Device>
         ensures names { OnOk result (IfTold (tells self.old) (λ t. map string_bytes out.new.items ≡ map string_bytes out.old.items ++ keys (image_of t))) }
+        ensures err { OnErr result (out.new.items ≡ out.old.items) }
         ensures told { tells self.new ≡ tells self.old }
         ensures moment { moment_of self.new ≡ moment_of self.old }
         ensures cause { HasCause Fault (faults_counted self.old) (faults_counted self.new) result }
         ensures plan { OnlyReads self.old self.new result }
     {
         self.count_call();
-        Ok(push_names(&self.files, out)?)
+        Ok(push_names(self.alloc, &self.files, out)?)
     }
 
     fn len(&mut self, name: &str) -> Result<Option<u64>, Device>

@@ -90,12 +90,22 @@ pub fn copy_from(bytes: &[u8], at: u64, out: &mut [u8]) -> usize
     count
 }
 
-// Appends the names.
-pub fn push_names(files: &Files, out: &mut Vec<String>) -> Result<(), AllocError>
-    ensures { OnOk result ((image : Image) → Reads files.now image → map string_bytes out.new.items ≡ map string_bytes out.old.items ++ names_of image) }
+// The names, in byte order.
+pub fn names_in(alloc: Global, files: &Files) -> Result<Vec<String>, AllocError>
+    ensures { IfOk result (λ names. (image : Image) → Reads files.now image → map string_bytes names.items ≡ names_of image) }
 {
+    let mut names = Vec::new(alloc);
     for name in files.keys() {
-        out.push(name.clone()?)?;
+        names.push(name.clone()?)?;
     }
-    Ok(())
+    Ok(names)
+}
+
+// Appends the names, or leaves the list as it was.
+pub fn push_names(alloc: Global, files: &Files, out: &mut Vec<String>) -> Result<(), AllocError>
+    ensures names { OnOk result ((image : Image) → Reads files.now image → map string_bytes out.new.items ≡ map string_bytes out.old.items ++ names_of image) }
+    ensures err { OnErr result (out.new.items ≡ out.old.items) }
+{
+    let mut names = names_in(alloc, files)?;
+    out.append(&mut names)
 }

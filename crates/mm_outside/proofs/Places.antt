@@ -14,7 +14,7 @@ use Rattle.mm_bytes.specs.Files.{resized, overwritten}
 use Rattle.mm_outside.specs.Image.{Image, name_cmp}
 use Rattle.mm_outside.specs.Told.{Change, Told, Pending, called, changed, image_of, Becomes, pending_by, pending_of, MayLeaveFile, MayLeave, Creates, Writes, Resizes, Syncs, Removes}
 use Rattle.mm_outside.specs.Crash.{file_after}
-use Rattle.mm_outside.specs.Place.{Place, place_of, place_by, under_way_by, under_way, settled_by, settled}
+use Rattle.mm_outside.specs.Place.{Place, place_of, place_by, under_way_by, under_way, last_synced_by, last_synced}
 
 -- names that tie are one
 is_equal : (o : Ordering) → is_eq o ≡ true → o ≡ Equal
@@ -57,7 +57,7 @@ get-changed Removes image name q file e = get-remove nat_list_cmp_total image na
 -- ---- the place of a call's file
 
 same_place : (f g : Option (List ℕ)) (p q : Pending) (v w : List (ℕ × List ℕ)) (s z : Option (List ℕ)) → f ≡ g → p ≡ q → v ≡ w → s ≡ z
-    → let a : Place = record { file = f; pending = p; writes = v; settled = s } in let b : Place = record { file = g; pending = q; writes = w; settled = z } in a ≡ b
+    → let a : Place = record { file = f; pending = p; writes = v; last_synced = s } in let b : Place = record { file = g; pending = q; writes = w; last_synced = z } in a ≡ b
 same_place f g p q v w s z a b c d = cc
 
 file_here : (t : Told) (name : List ℕ) (change : Change) (done : Bool) → get (image_of (called name change done t)) name ≡ cond done (file_after change (get (image_of t) name)) (get (image_of t) name)
@@ -69,7 +69,7 @@ pub place_here : (t : Told) (name : List ℕ) (change : Change) (done : Bool) �
 place_here t name change done = same_place _ _ _ _ _ _ _ _ (file_here t name change done)
     (cond-true _ (pending_by change done (get (image_of t) name) (pending_of t name)) (pending_of t name) (same_name name))
     (cond-true _ (under_way_by change done (under_way t.calls name)) (under_way t.calls name) (same_name name))
-    (cond-true _ (settled_by change done (get (image_of t) name) (settled t.start t.calls name)) (settled t.start t.calls name) (same_name name))
+    (cond-true _ (last_synced_by change done (get (image_of t) name) (last_synced t.start t.calls name)) (last_synced t.start t.calls name) (same_name name))
 
 file_there : (t : Told) (name q : List ℕ) (change : Change) (done : Bool) → eq_by_cmp name_cmp q name ≡ false → get (image_of (called name change done t)) q ≡ get (image_of t) q
 file_there t name q change true e = get-changed change (image_of t) name q _ refl ∙ cond-false _ (file_after change (get (image_of t) name)) (get (image_of t) q) e
@@ -80,7 +80,7 @@ pub place_there : (t : Told) (name q : List ℕ) (change : Change) (done : Bool)
 place_there t name q change done e = same_place _ _ _ _ _ _ _ _ (file_there t name q change done e)
     (cond-false _ (pending_by change done (get (image_of t) q) (pending_of t q)) (pending_of t q) e)
     (cond-false _ (under_way_by change done (under_way t.calls q)) (under_way t.calls q) e)
-    (cond-false _ (settled_by change done (get (image_of t) q) (settled t.start t.calls q)) (settled t.start t.calls q) e)
+    (cond-false _ (last_synced_by change done (get (image_of t) q) (last_synced t.start t.calls q)) (last_synced t.start t.calls q) e)
 
 -- both at once, by whether the names are one
 pub place_step : (t : Told) (name q : List ℕ) (change : Change) (done same : Bool) → eq_by_cmp name_cmp q name ≡ same → place_of (called name change done t) q ≡ cond same (place_by change done (place_of t q)) (place_of t q)

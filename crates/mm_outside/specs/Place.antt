@@ -20,27 +20,27 @@ abbrev pub under_way : List Call → List ℕ → List (ℕ × List ℕ)
 under_way [] name = []
 under_way (call ∷ calls) name = if eq_by_cmp name_cmp name call.name then under_way_by call.change call.is_done (under_way calls name) else under_way calls name
 
--- what a call makes of the content that its file had at the last sync
-abbrev pub settled_by : Change → Bool → Option (List ℕ) → Option (List ℕ) → Option (List ℕ)
-settled_by Syncs true file settled = file
-settled_by Removes true file settled = None
-settled_by change done file settled = settled
+-- what a call makes of the content that its file had at its last sync
+abbrev pub last_synced_by : Change → Bool → Option (List ℕ) → Option (List ℕ) → Option (List ℕ)
+last_synced_by Syncs true file content = file
+last_synced_by Removes true file content = None
+last_synced_by change done file content = content
 
--- a file as it was when it was last synced, or at first
-abbrev pub settled : Image → List Call → List ℕ → Option (List ℕ)
-settled start [] name = get start name
-settled start (call ∷ calls) name =
-    if eq_by_cmp name_cmp name call.name then settled_by call.change call.is_done (get (image_after start calls) name) (settled start calls name) else settled start calls name
+-- The content of a file at its last sync, or at first. One that was made since, and not synced, has none, though its creation lasts.
+abbrev pub last_synced : Image → List Call → List ℕ → Option (List ℕ)
+last_synced start [] name = get start name
+last_synced start (call ∷ calls) name =
+    if eq_by_cmp name_cmp name call.name then last_synced_by call.change call.is_done (get (image_after start calls) name) (last_synced start calls name) else last_synced start calls name
 
--- a file as it reads, what is pending of it, its writes under way, and as it was when last synced
+-- a file as it reads, what is pending of it, its writes under way, and its content at its last sync
 pub record Place : Type 0 where
   pub file : Option (List ℕ)
   pub pending : Pending
   pub writes : List (ℕ × List ℕ)
-  pub settled : Option (List ℕ)
+  pub last_synced : Option (List ℕ)
 
 abbrev pub place_of : Told → List ℕ → Place
-place_of t name = record { file = get (image_of t) name; pending = pending_of t name; writes = under_way t.calls name; settled = settled t.start t.calls name }
+place_of t name = record { file = get (image_of t) name; pending = pending_of t name; writes = under_way t.calls name; last_synced = last_synced t.start t.calls name }
 
 -- what a call makes of the place of its file. Every other place stays.
 abbrev pub place_by : Change → Bool → Place → Place
@@ -48,12 +48,12 @@ place_by change done p = record {
   file = if done then file_after change p.file else p.file;
   pending = pending_by change done p.file p.pending;
   writes = under_way_by change done p.writes;
-  settled = settled_by change done p.file p.settled;
+  last_synced = last_synced_by change done p.file p.last_synced;
 }
 
 -- a file of which nothing is pending
 abbrev pub clean : Option (List ℕ) → Place
-clean file = record { file = file; pending = nothing_pending (length (unwrap_or file [])); writes = []; settled = file }
+clean file = record { file = file; pending = nothing_pending (length (unwrap_or file [])); writes = []; last_synced = file }
 
 -- nothing is pending of any file
 abbrev pub IsClean : Told → Type 0

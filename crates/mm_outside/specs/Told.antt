@@ -1,5 +1,5 @@
 -- What a disk that tells has been asked, what it reads, and what a crash leaves.
-use Rattle.std.specs.Prelude.{◌≡◌, ℕ, ◌+◌, ◌<◌, ◌≤◌, min, max, Bool, true, false, not, ◌&&◌, ◌||◌, if◌then◌else◌, nat_le, nat_lt, ◌==◌, IsTrue, List, [], ◌∷◌, length, slice_index, Option, None, Some, Result, Ok, Err}
+use Rattle.std.specs.Prelude.{◌≡◌, ℕ, ◌+◌, ◌-◌, ◌^◌, ◌<◌, ◌≤◌, min, max, Bool, true, false, not, ◌&&◌, ◌||◌, if◌then◌else◌, nat_le, nat_lt, ◌==◌, IsTrue, List, [], ◌∷◌, length, slice_index, Option, None, Some, Result, Ok, Err}
 use Rattle.std.specs.Option.{option_map_or}
 use Rattle.std.specs.Bool.{MatchBool}
 use Rattle.std.specs.Ordering.{eq_by_cmp}
@@ -43,10 +43,10 @@ pub record Becomes (old new : Option Told) (step : Told → Told) : Type 0 where
   pub tells : (t : Told) → old ≡ Some t → new ≡ Some (step t)
   pub silent : old ≡ None → new ≡ None
 
--- a call that found no memory hasn't begun; any other may have
+-- A call that found no memory hasn't begun; any other has, whatever it answered. The number of begun calls stands at 2^64 - 1 at the end.
 abbrev pub Counts : {T : Type 0} → ℕ → ℕ → Result T Device → Type 0
 Counts before now (Ok _) = now ≡ before + 1
-Counts before now (Err Fault) = (before ≤ now) × (now ≤ before + 1)
+Counts before now (Err Fault) = (before ≤ now) × (now ≤ before + 1) × (before < 2 ^ 64 - 1 → now ≡ before + 1)
 Counts before now (Err NoMemory) = now ≡ before
 
 -- of what is told, P holds

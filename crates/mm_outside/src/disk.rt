@@ -1,4 +1,4 @@
-ghost use Rattle.std.specs.Prelude.{◌≡◌, ◌<◌, ◌≤◌, ◌+◌, ◌-◌, ◌^◌, ◌++◌, ℕ, List, length, take, drop, min, map, Option, Some, IfOk, OnOk, string_bytes};
+ghost use Rattle.std.specs.Prelude.{◌≡◌, ◌<◌, ◌≤◌, ◌+◌, ◌-◌, ◌^◌, ◌++◌, ℕ, List, length, take, drop, min, map, Option, Some, IfOk, OnOk, OnErr, string_bytes};
 ghost use Rattle.std.specs.Option.{option_map};
 ghost use Rattle.std.specs.FinMap.{get, keys};
 ghost use Rattle.mm_outside.specs.declared.disk.Device.TheVariants.{Fault, NoMemory};
@@ -40,8 +40,9 @@ impl<T: Drop> From<AllocFailed<T>> for Device {
 /// Files by name, as a flat folder has them, which a crash may tear.
 ///
 /// Lengths and offsets are in bytes. The changing calls are `create`, `write_at`, `set_len`, `sync` and `remove`.
-/// Each of them raises the moment by one as it begins. After a fault the disk reads as if the call had not been
-/// made, but a crash may find it done, or done in part, until the file is synced.
+/// Each of them raises the moment by one as it begins. One that answers `Fault` has begun, also where the disk refuses
+/// the name; one that answers `NoMemory` has not. After a fault the disk reads as if the call had not been made, but a
+/// crash may find it done, or done in part, until the file is synced.
 ///
 /// What a crash leaves: of a file that was synced, what is read. Of any other, a length between the least and the
 /// greatest that it had since its last sync, in which each written range, and all past the least length, may hold
@@ -50,15 +51,16 @@ pub trait Disk {
     /// What it has been asked, where it tells. What it reads, and what a crash leaves, follows.
     ghost told: { Self → Option Told };
 
-    /// How many changing calls have begun.
+    /// How many changing calls have begun. It stands at 2^64 - 1 at the end, and a call from there on is a fault.
     ghost moment: { Self → ℕ };
 
     /// How often it has failed. It stands at 2^64 - 1 at the end.
     ghost faults: { Self → ℕ };
 
-    /// Appends the names of all files, in byte order. After an error some names may have been appended.
+    /// Appends the names of all files, in byte order. After an error the list is as it was.
     fn names(&mut self, out: &mut Vec<String>) -> Result<(), Device>
         ensures names { OnOk result (IfTold (told self.old) (λ t. map string_bytes out.new.items ≡ map string_bytes out.old.items ++ keys (image_of t))) }
+        ensures err { OnErr result (out.new.items ≡ out.old.items) }
         ensures told { told self.new ≡ told self.old }
         ensures moment { moment self.new ≡ moment self.old }
         ensures cause { HasCause Fault (faults self.old) (faults self.new) result };
