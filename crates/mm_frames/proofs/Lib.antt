@@ -1,3 +1,4 @@
+pub mod Numbers
 pub mod Again
 pub mod ExactHeader
 pub mod OneField
