@@ -44,4 +44,3 @@ puts_field n k field of at x old new inside room law is = record {
 
 -- for the proof of a writer, and of a caller with several frames in one buffer
 pub ruleset parts = (length-part, length-overwritten, part-overwritten, part_before, part_behind, part_front, part-part, part_around)
-
