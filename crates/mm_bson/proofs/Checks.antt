@@ -1,19 +1,18 @@
 -- Checking element after element, over plain variables.
-use Rattle.std.proofs.Common.{◌≡◌, ℕ, zero, suc, ◌+◌, ◌-◌, ◌<◌, ◌≤◌, Bool, true, false, List, length, Option, Some, None, Result, Ok, Err, refl, sym, ap, subst, ◌∙◌, arith}
+use Rattle.std.proofs.Common.{◌≡◌, ℕ, ◌+◌, ◌<◌, ◌≤◌, true, List, length, Option, Some, None, Result, Ok, Err, refl, ap, ◌∙◌, arith}
 use Rattle.std.specs.Prelude.{IfSome, IsTrue, is_ok, ◌↔◌}
 use Rattle.std.specs.Str.{is_utf8}
 use Rattle.mm_bson.specs.declared.fault.BsonFault.{BsonFault}
 use Rattle.mm_bson.specs.declared.raw.Raw.{Raw}
 use Rattle.mm_bson.specs.declared.raw.Raw.TheVariants as raw
 use Rattle.std.specs.Borrow.{Bor}
-use Rattle.mm_bson.specs.Tree.{Tree, min_key, null, int32, int64, string, binary, object_id, boolean, date, timestamp, max_key, Elements, no_elements, element, append}
+use Rattle.mm_bson.specs.Tree.{Tree, min_key, null, int32, int64, string, binary, object_id, boolean, date, timestamp, max_key, Elements}
 use Rattle.mm_bson.specs.Spelling.{IsDocument, spelling}
-use Rattle.mm_bson.specs.Reading.{◌>>=◌, Reader, next_due, element_at, elements_at, nested_at, whole, ended}
-use Rattle.mm_bson.specs.Piece.{Piece, plain, text, inside_at, head_at, piece, Judges}
+use Rattle.mm_bson.specs.Reading.{Reader, next_due, element_at, whole}
+use Rattle.mm_bson.specs.Piece.{Piece, text, inside_at, head_at, piece, Judges}
 use Rattle.mm_bson.proofs.Bytes.{IsBytes}
 use Rattle.mm_bson.proofs.Takes.{whole_takes}
 use Rattle.mm_bson.proofs.Again.{whole_again}
-use Rattle.mm_bson.proofs.Steps.{with_front, fails-bind, goes_on, stops, is_done, elements_inside, nested-ends}
 use Rattle.mm_bson.proofs.Parts.{element_parts}
 
 pub first_small : (due : Option ℕ) (n : ℕ) → IfSome due (λ i. i ≡ 0) → IfSome due (λ i. i + n ≤ n)

@@ -1,14 +1,13 @@
 pub mod Bytes
 pub mod Numbered
 pub mod Loop
-pub mod Steps
 pub mod Takes
 pub mod Again
-pub mod Holding
 pub mod Orders
 pub mod Parts
 pub mod Checks
 pub mod Walks
+pub mod Ends
 pub mod Paths
 pub mod Building
 pub mod Copies

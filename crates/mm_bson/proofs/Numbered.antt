@@ -1,10 +1,7 @@
 -- An array and the document of its values.
-use Rattle.std.proofs.Common.{◌≡◌, ℕ, suc, ◌+◌, ◌-◌, ◌<◌, ◌^◌, ◌==◌, true, List, [], ◌∷◌, ◌++◌, length, take, drop, Some, Ok, refl, ap, max, arith}
+use Rattle.std.proofs.Common.{◌≡◌, ℕ, suc, ◌+◌, ◌<◌, ◌^◌, true, List, [], ◌∷◌, ◌++◌, length, refl, ap, max, arith}
 use Rattle.std.specs.Fmt.{decimal}
-use Rattle.std.specs.Prelude.{position}
-use Rattle.std.proofs.lemmas.List.{take_all, length-drop}
-use Rattle.mm_bson.specs.Reading.{name_at}
-use Rattle.std.specs.Str.{is_utf8, bytes_eq}
+use Rattle.std.specs.Str.{bytes_eq}
 use Rattle.std.proofs.lemmas.Str.{is_utf8-from_IsUtf8, IsUtf8-from_ascii}
 use Rattle.std.specs.Str.Parse.{AllDigits}
 use Rattle.std.proofs.lemmas.Str.Parse.{digit_from_value}
@@ -76,15 +73,6 @@ digits_no_zero (d ∷ ds) h = ((λ e. absurd (omega (arith, digit_from_value d h
 pub numeral_is_name : (i : ℕ) → i < 2 ^ 64 → IsName (decimal i)
 numeral_is_name i lt =
     (is_utf8-from_IsUtf8 (decimal i) (IsUtf8-from_ascii (decimal i) (IsAscii-decimal i lt)), digits_no_zero (decimal i) (decimal_is_IsNumeral i lt).0.1)
-
--- a name that is due is read
-pub due_name_read : (end : ℕ) (bytes : List ℕ) (i n : ℕ) → position (λ b. b == 0) bytes ≡ Some n → is_utf8 (take n bytes) ≡ true → bytes_eq (take n bytes) (decimal i) ≡ true
-    → name_at (Some i) end bytes ≡ Ok (decimal i, take (length bytes - (n + 1)) (drop (n + 1) bytes))
-unfolding name_at
-due_name_read end bytes i n at text due =
-    let rest : take (length bytes - (n + 1)) (drop (n + 1) bytes) ≡ drop (n + 1) bytes = take_all (length bytes - (n + 1)) (drop (n + 1) bytes) (omega (arith, length-drop (n + 1) bytes)) in
-    let name : take n bytes ≡ decimal i = name_is (take n bytes) i due in
-    rw (at, text, due, name, rest) refl
 
 pub count_is : (xs : List Value) → count (values_of xs) ≡ length xs
 count_is [] = refl

@@ -6,14 +6,14 @@ use Rattle.std.proofs.lemmas.Bool.{ltb-false}
 use Rattle.std.proofs.lemmas.Bool.Decides.{nat_tests}
 use Rattle.std.proofs.lemmas.List.{length-take, length-drop}
 use Rattle.mm_bson.specs.declared.fault.BsonFault.{BsonFault}
-use Rattle.mm_bson.specs.declared.fault.BsonFault.TheVariants.{BadLength, BadUtf8}
+use Rattle.mm_bson.specs.declared.fault.BsonFault.TheVariants.{BadUtf8}
 use Rattle.mm_bson.specs.declared.kind.Kind.{Kind}
 use Rattle.mm_bson.specs.declared.kind.Kind.TheVariants as kind
-use Rattle.mm_bson.specs.Tree.{Tree, min_key, null, int32, int64, string, document, array, binary, object_id, boolean, date, timestamp, max_key, Elements}
+use Rattle.mm_bson.specs.Tree.{Tree, int32, int64, string, document, array, binary, object_id, boolean, date, timestamp, Elements}
 use Rattle.mm_bson.specs.Named.{unnamed}
 use Rattle.mm_bson.specs.Reading.{◌>>=◌, Reader, bad_length, number_at, bytes_at, boolean_at, binary_at, len_at, text_to, string_at, document_at, type_at, name_at, value_at, element_at}
 use Rattle.mm_bson.specs.Piece.{Piece, plain, text, inner_document, inner_array, text_at, framed_at, piece_at, inside_at, head_at}
-use Rattle.mm_bson.proofs.Takes.{or_false, len_ok}
+use Rattle.mm_bson.proofs.Takes.{len_ok}
 
 -- answers with their types
 abbrev texts : List ℕ → List ℕ → Result (List ℕ × List ℕ) BsonFault

@@ -1,6 +1,6 @@
 -- A fault lies inside the document that is read.
 use Rattle.std.proofs.Common.{◌≡◌, ℕ, zero, suc, ◌+◌, ◌-◌, ◌<◌, ◌≤◌, Bool, true, false, cond, eqb, ltb, ◌||◌, List, [], ◌∷◌, ◌++◌, length, get_or, take, drop, Option, Some, None, Result, Ok, Err, refl, ap, subst, ◌∙◌, ◌⊎◌, inl, inr, arith}
-use Rattle.std.specs.Prelude.{position, IfErr}
+use Rattle.std.specs.Prelude.{position}
 use Rattle.std.specs.Int.{Width, w32, w64, byte_len, from_le_bytes, cast_signed}
 use Rattle.std.specs.Str.{is_utf8}
 use Rattle.std.proofs.lemmas.Bool.{ltb-true, ltb-false}
@@ -12,7 +12,7 @@ use Rattle.mm_bson.specs.declared.kind.Kind.TheVariants as kind
 use Rattle.mm_bson.specs.Tree.{int32, int64, string, document, array, binary, object_id, boolean, date, timestamp, Elements, element}
 use Rattle.mm_bson.specs.Named.{unnamed}
 use Rattle.mm_bson.specs.Spelling.{type_byte, value_spelling}
-use Rattle.mm_bson.specs.Reading.{◌>>=◌, Gives, Reader, is_due, next_due, kind_of, kind_at, type_at, number_at, name_to, name_at, text_to, bytes_at, binary_at, boolean_at, string_at, len_at, document_at, value_at, element_at, elements_at, body, ended, nested_at, IsFramed, whole}
+use Rattle.mm_bson.specs.Reading.{◌>>=◌, Reader, is_due, next_due, kind_of, kind_at, type_at, number_at, name_to, name_at, text_to, bytes_at, binary_at, boolean_at, string_at, len_at, document_at, value_at, element_at, elements_at, body, ended, nested_at, IsFramed, whole}
 use Rattle.mm_bson.specs.Faults.{LiesIn, IsExplained}
 use Rattle.mm_bson.proofs.Bytes.{IsBytes, IsBytes-take, IsBytes-drop}
 use Rattle.mm_bson.proofs.Takes.{Reads, type_takes, name_takes, or_false, number_ok, len_ok, element_takes, nested_takes}
@@ -241,13 +241,3 @@ whole_explained bytes e fits h = by (number_at w32 (length bytes) bytes) refl h
                 | inr deep ↦ explained bytes e (wider 0 (0 + (length bytes - 1)) 0 (length bytes) e (omega arith) (omega arith) (nested_lies 100 None 0 bytes e fits c.1 deep.1))
               ]
         ]
-
-pub is_explained : (bytes : List ℕ) (r : Result Elements BsonFault) → IsBytes bytes → Gives (λ x. x) r (whole bytes) → IfErr r (IsExplained bytes)
-is_explained bytes (Ok d) fits given = tt
-is_explained bytes (Err (BadLength at)) fits given = whole_explained bytes (BadLength at) fits given
-is_explained bytes (Err (BadType at byte)) fits given = whole_explained bytes (BadType at byte) fits given
-is_explained bytes (Err (BadUtf8 at)) fits given = whole_explained bytes (BadUtf8 at) fits given
-is_explained bytes (Err (BadName at)) fits given = whole_explained bytes (BadName at) fits given
-is_explained bytes (Err (TooDeep at)) fits given = whole_explained bytes (TooDeep at) fits given
-is_explained bytes (Err TooLong) fits given = whole_explained bytes TooLong fits given
-is_explained bytes (Err NoMemory) fits given = tt

@@ -1,6 +1,5 @@
 -- What is read is spelled so.
-use Rattle.std.proofs.Common.{◌≡◌, ℕ, zero, suc, ◌+◌, ◌-◌, ◌^◌, ◌<◌, ◌≤◌, Bool, true, false, cond, eqb, ltb, ◌||◌, not, ◌⊎◌, List, [], ◌∷◌, ◌++◌, length, get_or, take, drop, Option, Some, None, Result, Ok, Err, refl, sym, ap, subst, ◌∙◌, append_assoc, arith, inl, inr}
-use Rattle.std.specs.Prelude.{IfOk}
+use Rattle.std.proofs.Common.{◌≡◌, ℕ, zero, suc, ◌+◌, ◌-◌, ◌^◌, ◌<◌, ◌≤◌, Bool, true, false, cond, eqb, ltb, ◌||◌, not, ◌⊎◌, List, [], ◌∷◌, ◌++◌, length, get_or, take, drop, Option, Some, None, Ok, Err, refl, sym, ap, subst, ◌∙◌, append_assoc, arith, inl, inr}
 use Rattle.std.specs.Str.{is_utf8}
 use Rattle.std.specs.List.{prefix_len}
 use Rattle.std.specs.Int.{w32, w64, from_le_bytes, to_le_bytes, cast_signed, cast_unsigned}
@@ -17,7 +16,7 @@ use Rattle.mm_bson.specs.declared.kind.Kind.TheVariants as kind
 use Rattle.mm_bson.specs.Tree.{Tree, min_key, null, int32, int64, string, document, array, binary, object_id, boolean, date, timestamp, max_key, Elements, no_elements, element, Values, tree_depth, depth}
 use Rattle.mm_bson.specs.Named.{unnamed, AreNumbered}
 use Rattle.mm_bson.specs.Spelling.{type_byte, framed, text_spelling, value_spelling, elements_spelling, values_spelling, spelling, IsName, HasNoZero, IsValue, AreElements, IsDocument}
-use Rattle.mm_bson.specs.Reading.{◌>>=◌, Reader, is_due, next_due, kind_of, kind_at, type_at, number_at, name_to, name_at, text_to, bytes_at, binary_at, boolean_at, string_at, len_at, document_at, value_at, element_at, elements_at, body, ended, nested_at, IsFramed, whole, Gives}
+use Rattle.mm_bson.specs.Reading.{◌>>=◌, Reader, is_due, next_due, kind_of, kind_at, type_at, number_at, name_to, name_at, text_to, bytes_at, binary_at, boolean_at, string_at, len_at, document_at, value_at, element_at, elements_at, body, ended, nested_at, IsFramed, whole}
 use Rattle.mm_bson.proofs.Bytes.{IsBytes, IsBytes-take, IsBytes-drop, bind_ok, guard_ok, passed_ok, ok_is, ok_gives, Takes, Takes-then, wide32, wide64, number_takes}
 use Rattle.mm_bson.proofs.Numbered.{name_is, named_again, numbered_spelling, numbered_depth, numbered_values}
 
@@ -475,7 +474,3 @@ whole_takes bytes es fits e =
     let f : IsFramed bytes = record { long = omega arith; counted = (number_ok len bytes n b.0.1 b.1).1 ∙ same } in
     let t = nested_takes 100 None 0 bytes es fits f h.1 in
     (t.spelled, record { elements = t.elements; levels = t.shallow; short = omega (arith, ap length t.spelled) })
-
-pub is_found : (bytes : List ℕ) (r : Result Elements BsonFault) → IsBytes bytes → Gives (λ x. x) r (whole bytes) → IfOk r (λ d. IsDocument d × (bytes ≡ spelling d))
-is_found bytes (Ok d) fits given = let t = whole_takes bytes d fits given in (t.1, t.0)
-is_found bytes (Err e) fits given = tt

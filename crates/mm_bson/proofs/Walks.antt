@@ -1,10 +1,8 @@
 -- Walking through bytes that are known to spell a document.
-use Rattle.std.proofs.Common.{◌≡◌, ℕ, zero, suc, ◌+◌, ◌-◌, ◌^◌, ◌<◌, ◌≤◌, Bool, true, false, eqb, ltb, List, [], ◌∷◌, ◌++◌, length, get_or, take, drop, ℤ, Option, Some, None, Result, Ok, Err, max, refl, sym, ap, subst, ◌∙◌, append_assoc, arith}
-use Rattle.std.specs.Prelude.{position}
-use Rattle.std.specs.Int.{w32, w64, to_le_bytes, cast_unsigned, cast_signed}
+use Rattle.std.proofs.Common.{◌≡◌, ℕ, ◌+◌, ◌-◌, ◌^◌, ◌<◌, ◌≤◌, true, false, eqb, ltb, List, [], ◌∷◌, ◌++◌, length, get_or, take, drop, ℤ, Result, Ok, Err, refl, sym, ap, subst, ◌∙◌, append_assoc, arith}
+use Rattle.std.specs.Int.{w32, w64, to_le_bytes, cast_unsigned}
 use Rattle.std.specs.Int.RustNames.{FitsSigned}
 use Rattle.std.specs.List.{prefix_len}
-use Rattle.std.specs.Fmt.{decimal}
 use Rattle.std.specs.Str.{is_utf8}
 use Rattle.std.proofs.lemmas.Bool.{le-ltb, lt-ltb}
 use Rattle.std.proofs.lemmas.Bool.Decides.{nat_tests}
@@ -12,18 +10,17 @@ use Rattle.std.proofs.lemmas.Int.{to_z-of_z, ints}
 use Rattle.std.proofs.Math.Seq.{get_or-append_seam}
 use Rattle.std.proofs.lemmas.List.{take_at, drop_at, length-append}
 use Rattle.mm_bson.specs.declared.fault.BsonFault.{BsonFault}
-use Rattle.mm_bson.specs.declared.kind.Kind.{Kind}
 use Rattle.mm_bson.specs.declared.kind.Kind.TheVariants as kind
-use Rattle.mm_bson.specs.Tree.{Tree, min_key, null, int32, int64, string, document, array, binary, object_id, boolean, date, timestamp, max_key, Elements, no_elements, element, Values, no_values, item, tree_depth, depth, values_depth, count}
+use Rattle.mm_bson.specs.Tree.{Tree, min_key, null, int32, int64, string, document, array, binary, object_id, boolean, date, timestamp, max_key, Elements, no_elements, element, Values, no_values, item, depth, values_depth, count}
 use Rattle.mm_bson.specs.Named.{named, unnamed, AreNumbered}
-use Rattle.mm_bson.specs.Spelling.{type_byte, framed, text_spelling, value_spelling, elements_spelling, values_spelling, spelling, array_spelling, IsName, HasNoZero, IsValue, AreElements, AreValues, IsDocument}
-use Rattle.mm_bson.specs.Reading.{◌>>=◌, type_at, number_at, boolean_at, len_at, nested_at, elements_at, body, whole}
-use Rattle.mm_bson.specs.Piece.{Piece, plain, text, inner_document, inner_array, text_at, framed_at, piece_at, cut_to, cut_at, piece_for}
+use Rattle.mm_bson.specs.Spelling.{framed, text_spelling, value_spelling, elements_spelling, values_spelling, spelling, array_spelling, IsName, IsValue, AreElements, AreValues, IsDocument}
+use Rattle.mm_bson.specs.Reading.{number_at, boolean_at, len_at, body}
+use Rattle.mm_bson.specs.Piece.{Piece, plain, inner_document, inner_array, text_at, framed_at, piece_at, cut_at, piece_for}
 use Rattle.mm_bson.specs.Built.{IsBuilt, IsBuiltArray}
 use Rattle.mm_bson.specs.Walk.{or_nothing, elements_in, document_in, Spells, SpellsDocument, SpellsArray, IsHeld}
 use Rattle.mm_bson.proofs.Bytes.{ok_is, wide32, wide64, number_again}
 use Rattle.mm_bson.proofs.Numbered.{unnamed_again, named_again, numbered_spelling, numbered_depth, numbered_values, numeral_is_name}
-use Rattle.mm_bson.proofs.Again.{not_zero, name_len, kind_for, type_again, inner_len, spelling_len, spelling_opened, spelling_parts, binary_again, element_len_is, count_le, elements_again}
+use Rattle.mm_bson.proofs.Again.{not_zero, name_len, kind_for, type_again, spelling_len, spelling_opened, spelling_parts, binary_again, element_len_is, count_le, elements_again}
 
 -- ---- pieces again
 

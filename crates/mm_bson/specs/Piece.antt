@@ -9,7 +9,7 @@ use Rattle.mm_bson.specs.declared.kind.Kind.{Kind}
 use Rattle.mm_bson.specs.declared.kind.Kind.TheVariants as kind
 use Rattle.mm_bson.specs.declared.raw.Raw.{Raw}
 use Rattle.mm_bson.specs.declared.raw.Raw.TheVariants as raw
-use Rattle.mm_bson.specs.Tree.{Tree, min_key, null, int32, int64, string, document, array, binary, object_id, boolean, date, timestamp, max_key, Elements}
+use Rattle.mm_bson.specs.Tree.{Tree, min_key, null, int32, int64, string, document, array, binary, object_id, boolean, date, timestamp, max_key}
 use Rattle.mm_bson.specs.Named.{unnamed}
 use Rattle.mm_bson.specs.Spelling.{spelling, array_spelling}
 use Rattle.mm_bson.specs.Reading.{◌>>=◌, Reader, bad_length, number_at, bytes_at, boolean_at, binary_at, len_at, type_at, name_at, IsFramed}

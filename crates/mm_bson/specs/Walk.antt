@@ -1,7 +1,7 @@
 -- Documents in place: the tree that bytes stand for, where they are known to spell one.
-use Rattle.std.specs.Prelude.{◌≡◌, ℕ, suc, ◌<◌, ◌^◌, List, length, None, Result, Ok, Err}
+use Rattle.std.specs.Prelude.{◌≡◌, ℕ, suc, ◌<◌, ◌^◌, List, length, None, Result, Ok, Err, ◌++◌, ◌≤◌, take}
 use Rattle.mm_bson.specs.declared.fault.BsonFault.{BsonFault}
-use Rattle.mm_bson.specs.Tree.{Tree, tree_depth, Elements, no_elements, element, depth, Values, no_values, item}
+use Rattle.mm_bson.specs.Tree.{Tree, document, array, tree_depth, Elements, no_elements, element, depth, Values, no_values, item}
 use Rattle.mm_bson.specs.Named.{AreNumbered}
 use Rattle.mm_bson.specs.Spelling.{spelling, elements_spelling, value_spelling, AreElements, IsValue}
 use Rattle.mm_bson.specs.Reading.{elements_at, nested_at, body}
@@ -51,3 +51,15 @@ pub record IsHeld (t : Tree) : Type 0 where
   pub value : IsValue t
   pub levels : tree_depth t < 100
   pub fits : length (value_spelling t) < 2 ^ 31
+
+-- a value that holds no other
+abbrev pub IsPlain : Tree → Type 0
+IsPlain (document es) = ⊥
+IsPlain (array vs) = ⊥
+IsPlain t = Unit {0}
+
+-- these bytes end at a place of others
+pub record EndsAt (end : ℕ) (bytes all : List ℕ) : Type 0 where
+  pub front : List ℕ
+  pub parts : take end all ≡ front ++ bytes
+  pub within : end ≤ length all

@@ -7,12 +7,14 @@ ghost use Rattle.mm_bson.specs.Tree.{Elements};
 ghost use Rattle.mm_bson.specs.Spelling.{IsDocument, spelling};
 
 use crate::fault::BsonFault;
-use crate::raw::{Raw, head_of, u32_at};
-use crate::reading::{MAX_LEN, MAX_LEVELS};
+use crate::raw::{EMPTY_LEN, Raw, head_of, u32_at};
 use crate::text::is_text;
 
-/// The bytes of the shortest document: its length and its last 00.
-const EMPTY_LEN: usize = 5;
+/// The most bytes that a document which is read has.
+pub const MAX_LEN: usize = 0x100_0000;
+
+/// The most levels of documents and arrays, the whole document being the first.
+pub const MAX_LEVELS: usize = 100;
 
 fn after(due: Option<usize>) -> Option<usize>
     requires { IfSome due (λ i. i < 2 ^ 32) }

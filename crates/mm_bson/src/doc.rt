@@ -1,14 +1,17 @@
 //! Documents, arrays and values in memory.
 
-ghost use Rattle.std.specs.Prelude.{◌≡◌, ◌<◌, ◌≤◌, ◌+◌, ◌^◌, length, IsTrue, ◌↔◌, IfOk, OnOk, OnErr};
+ghost use Rattle.std.specs.Prelude.{◌≡◌, ◌<◌, ◌≤◌, ◌+◌, ◌^◌, length, Ok, IsTrue, ◌↔◌, IfOk, IfErr, OnOk, OnErr};
 ghost use Rattle.std.specs.Fmt.{decimal};
-ghost use Rattle.mm_bson.specs.Tree.{tree_depth, depth, values_depth, no_elements, element, append, no_values, item, append_values, count};
-ghost use Rattle.mm_bson.specs.Spelling.{spelling, array_spelling, element_len, HasNoZero};
+ghost use Rattle.mm_bson.specs.Tree.{Elements, tree_depth, depth, values_depth, no_elements, element, append, no_values, item, append_values, count};
+ghost use Rattle.mm_bson.specs.Spelling.{IsDocument, spelling, array_spelling, element_len, HasNoZero};
+ghost use Rattle.mm_bson.specs.Reading.{Gives, whole};
+ghost use Rattle.mm_bson.specs.Faults.{IsExplained};
 ghost use Rattle.mm_bson.specs.Built.{IsBuilt, IsBuiltArray, HoldsDocument, HoldsArray};
 
+use crate::fault::BsonFault;
 use crate::place::{DocRef, ListRef, ObjectIdRef, ValueRef};
+use crate::shared::Shared;
 use crate::text::{Blob, Text};
-use crate::writing::put_element;
 use itoa::Buffer;
 use std::alloc::{AllocError, Global};
 use std::marker::Model;
@@ -24,7 +27,7 @@ const EMPTY: [u8; 5] = [5, 0, 0, 0, 0];
 #[cycle(doc)]
 #[derive(Drop)]
 pub struct Doc {
-    bytes: Vec<u8>,
+    bytes: Shared,
     elements: Vec<Element>,
     inner_levels: usize,
 }
@@ -61,7 +64,7 @@ pub enum Value {
 #[cycle(doc)]
 #[derive(Drop)]
 pub struct ValueList {
-    bytes: Vec<u8>,
+    bytes: Shared,
     values: Vec<Value>,
     inner_levels: usize,
 }
@@ -79,7 +82,7 @@ impl Model for Doc {
 
     ghost view = { λ d. elements_of d.elements.items };
 
-    ghost invariant = { λ d. HoldsDocument d.bytes.items d.inner_levels (elements_of d.elements.items) };
+    ghost invariant = { λ d. HoldsDocument d.bytes d.inner_levels (elements_of d.elements.items) };
 
     ghost size = { depth };
 
@@ -102,7 +105,7 @@ impl Model for ValueList {
 
     ghost view = { λ l. values_of l.values.items };
 
-    ghost invariant = { λ l. HoldsArray l.bytes.items l.inner_levels (values_of l.values.items) };
+    ghost invariant = { λ l. HoldsArray l.bytes l.inner_levels (values_of l.values.items) };
 
     ghost size = { values_depth };
 
@@ -119,8 +122,31 @@ impl Doc {
     pub fn new(alloc: Global) -> Result<Doc, AllocError>
         ensures { IfOk result (λ d. d ≡ no_elements) }
     {
-        let bytes = Vec::from_slice(alloc, &EMPTY)?;
+        let bytes = Shared::of_vec(Vec::from_slice(alloc, &EMPTY)?)?;
         Ok(Doc::of_parts(bytes, Vec::new(alloc), 0))
+    }
+
+    /// The document that the bytes spell, all of the bytes.
+    ///
+    /// # Errors
+    /// The first fault in reading order: `BadLength` where a length doesn't
+    /// agree or the bytes end, `BadType` for a byte that is no type or no
+    /// boolean, `BadUtf8`, `BadName` for a name that isn't due in its array,
+    /// `TooDeep` above 100 levels, `TooLong` above 16,777,216 bytes.
+    pub fn parse(alloc: Global, bytes: &[u8]) -> Result<Doc, BsonFault>
+        // What is read is spelled so.
+        ensures found { IfOk result (λ d. IsDocument d × (bytes.now ≡ spelling d)) }
+        // What is spelled so is read, unless memory runs out.
+        ensures only { (d : Elements) → IsDocument d → bytes.now ≡ spelling d → Gives (λ x. x) result (Ok d) }
+        // Each fault lies in the bytes, and `TooLong` comes of the length alone.
+        ensures explained { IfErr result (IsExplained bytes.now) }
+        // Which fault it is.
+        ensures exact { Gives (λ x. x) result (whole bytes.now) }
+    {
+        match DocRef::parse(bytes) {
+            Ok(document) => Ok(Doc::copy_of(alloc, &document)?),
+            Err(fault) => Err(fault),
+        }
     }
 
     /// Whether there is room for an element: the length stays below 2^31.
@@ -141,17 +167,15 @@ impl Doc {
         ensures ok { OnOk result (self.new ≡ append self.old (element name (tree value) no_elements)) }
         ensures err { OnErr result (self.new ≡ self.old) }
     {
-        let more = name.as_bytes().len() + 2 + value.spelled_len();
         self.elements.reserve(1)?;
-        self.bytes.reserve(more)?;
-        put_element(&mut self.bytes, name.as_bytes(), &value);
+        self.bytes.put(name.as_bytes(), &value.as_ref())?;
         self.inner_levels = self.inner_levels.max(value.levels());
         self.elements.push_reserved(Element { name, value });
         Ok(())
     }
 
-    pub(crate) fn of_parts(bytes: Vec<u8>, elements: Vec<Element>, inner_levels: usize) -> Doc
-        requires { HoldsDocument bytes.items inner_levels (elements_of elements.items) }
+    pub(crate) fn of_parts(bytes: Shared, elements: Vec<Element>, inner_levels: usize) -> Doc
+        requires { HoldsDocument bytes inner_levels (elements_of elements.items) }
         ensures { result ≡ elements_of elements.items }
     {
         Doc {
@@ -185,7 +209,7 @@ impl Doc {
     }
 
     pub(crate) fn allocator(&self) -> Global {
-        *self.bytes.allocator()
+        *self.elements.allocator()
     }
 
     pub(crate) fn inner_levels(&self) -> usize
@@ -210,7 +234,7 @@ impl ValueList {
     pub fn new(alloc: Global) -> Result<ValueList, AllocError>
         ensures { IfOk result (λ l. l ≡ no_values) }
     {
-        let bytes = Vec::from_slice(alloc, &EMPTY)?;
+        let bytes = Shared::of_vec(Vec::from_slice(alloc, &EMPTY)?)?;
         Ok(ValueList::of_parts(bytes, Vec::new(alloc), 0))
     }
 
@@ -220,7 +244,7 @@ impl ValueList {
     {
         let mut digits = Buffer::new();
         let name = digits.format(self.values.len()).as_bytes();
-        let room = LENGTH_LIMIT - self.bytes.len();
+        let room = LENGTH_LIMIT - self.bytes().len();
         let len = value.spelled_len();
         len < room && name.len() + 2 + len < room
     }
@@ -234,17 +258,15 @@ impl ValueList {
     {
         let mut digits = Buffer::new();
         let name = digits.format(self.values.len()).as_bytes();
-        let more = name.len() + 2 + value.spelled_len();
         self.values.reserve(1)?;
-        self.bytes.reserve(more)?;
-        put_element(&mut self.bytes, name, &value);
+        self.bytes.put(name, &value.as_ref())?;
         self.inner_levels = self.inner_levels.max(value.levels());
         self.values.push_reserved(value);
         Ok(())
     }
 
-    pub(crate) fn of_parts(bytes: Vec<u8>, values: Vec<Value>, inner_levels: usize) -> ValueList
-        requires { HoldsArray bytes.items inner_levels (values_of values.items) }
+    pub(crate) fn of_parts(bytes: Shared, values: Vec<Value>, inner_levels: usize) -> ValueList
+        requires { HoldsArray bytes inner_levels (values_of values.items) }
         ensures { result ≡ values_of values.items }
     {
         ValueList {
@@ -278,7 +300,7 @@ impl ValueList {
     }
 
     pub(crate) fn allocator(&self) -> Global {
-        *self.bytes.allocator()
+        *self.values.allocator()
     }
 
     pub(crate) fn inner_levels(&self) -> usize

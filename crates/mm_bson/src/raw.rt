@@ -17,7 +17,7 @@ use crate::text::is_text;
 use itoa::Buffer;
 
 /// The bytes of the shortest document: its length and its last 00.
-const EMPTY_LEN: usize = 5;
+pub(crate) const EMPTY_LEN: usize = 5;
 
 /// A value as it lies in its document's bytes.
 #[derive(Clone, Copy)]

@@ -1,11 +1,13 @@
 //! Spelling one more element behind those of a document, in place.
 
-ghost use Rattle.std.specs.Prelude.{◌≡◌, ◌<◌, ◌≤◌, ◌+◌, ◌^◌, [], ◌∷◌, ◌++◌, List, ℕ, length, drop, slice_set, vec_len, vec_capacity};
+ghost use Rattle.std.specs.Prelude.{◌≡◌, ◌<◌, ◌≤◌, ◌+◌, ◌^◌, [], ◌∷◌, ◌++◌, List, ℕ, length, drop, slice_set, vec_len, vec_capacity, OnOk, OnErr};
 ghost use Rattle.std.specs.Int.{w32, to_le_bytes};
 ghost use Rattle.mm_bson.specs.Spelling.{type_byte, value_spelling, text_spelling, framed, element_spelling, element_len, IsValue};
-ghost use Rattle.mm_bson.specs.View.{tree};
+ghost use Rattle.mm_bson.specs.View.{tree_in};
 
 use crate::doc::Value;
+use crate::place::ValueRef;
+use std::alloc::AllocError;
 
 /// The bytes of a length.
 const LENGTH_LEN: usize = 4;
@@ -20,47 +22,56 @@ fn put(out: &mut Vec<u8>, bytes: &[u8])
     out.extend_from_slice(bytes).unwrap();
 }
 
-impl Value {
-    ghost use Rattle.std.specs.Prelude.{◌≡◌, length};
-    ghost use Rattle.mm_bson.specs.Spelling.{type_byte, value_spelling};
-    ghost use Rattle.mm_bson.specs.View.{tree};
-
+impl<'a> ValueRef<'a> {
     fn type_byte(&self) -> u8
-        ensures { result ≡ type_byte (tree self.now) }
+        ensures { result ≡ type_byte (tree_in self.now) }
     {
         match self {
-            Value::String(_) => 0x02,
-            Value::Document(_) => 0x03,
-            Value::Array(_) => 0x04,
-            Value::Binary { .. } => 0x05,
-            Value::ObjectId(_) => 0x07,
-            Value::Boolean(_) => 0x08,
-            Value::Date(_) => 0x09,
-            Value::Null => 0x0a,
-            Value::Int32(_) => 0x10,
-            Value::Timestamp { .. } => 0x11,
-            Value::Int64(_) => 0x12,
-            Value::MaxKey => 0x7f,
-            Value::MinKey => 0xff,
+            ValueRef::String(_) => 0x02,
+            ValueRef::Document(_) => 0x03,
+            ValueRef::Array(_) => 0x04,
+            ValueRef::Binary { .. } => 0x05,
+            ValueRef::ObjectId(_) => 0x07,
+            ValueRef::Boolean(_) => 0x08,
+            ValueRef::Date(_) => 0x09,
+            ValueRef::Null => 0x0a,
+            ValueRef::Int32(_) => 0x10,
+            ValueRef::Timestamp { .. } => 0x11,
+            ValueRef::Int64(_) => 0x12,
+            ValueRef::MaxKey => 0x7f,
+            ValueRef::MinKey => 0xff,
         }
     }
 
     /// How many bytes spell the value, without a type byte and a name.
     #[tactic(auto, unfolding(crate::specs::Spelling::text_spelling, crate::specs::Spelling::spelling, crate::specs::Spelling::array_spelling))]
     pub fn spelled_len(&self) -> usize
-        ensures { result ≡ length (value_spelling (tree self.now)) }
+        ensures { result ≡ length (value_spelling (tree_in self.now)) }
     {
         match self {
-            Value::String(text) => 4 + text.as_bytes().len() + 1,
-            Value::Document(document) => document.bytes().len(),
-            Value::Array(list) => list.bytes().len(),
-            Value::Binary { bytes, .. } => 4 + 1 + bytes.as_bytes().len(),
-            Value::ObjectId(id) => id.as_slice().len(),
-            Value::Boolean(_) => 1,
-            Value::Int32(_) => 4,
-            Value::Int64(_) | Value::Date(_) | Value::Timestamp { .. } => 8,
-            Value::Null | Value::MinKey | Value::MaxKey => 0,
+            ValueRef::String(text) => 4 + text.as_bytes().len() + 1,
+            ValueRef::Document(document) => document.bytes().len(),
+            ValueRef::Array(list) => list.bytes().len(),
+            ValueRef::Binary { bytes, .. } => 4 + 1 + bytes.len(),
+            ValueRef::ObjectId(id) => id.as_bytes().len(),
+            ValueRef::Boolean(_) => 1,
+            ValueRef::Int32(_) => 4,
+            ValueRef::Int64(_) | ValueRef::Date(_) | ValueRef::Timestamp { .. } => 8,
+            ValueRef::Null | ValueRef::MinKey | ValueRef::MaxKey => 0,
         }
+    }
+}
+
+impl Value {
+    ghost use Rattle.std.specs.Prelude.{◌≡◌, length};
+    ghost use Rattle.mm_bson.specs.Spelling.{value_spelling};
+    ghost use Rattle.mm_bson.specs.View.{tree};
+
+    /// How many bytes spell the value, without a type byte and a name.
+    pub fn spelled_len(&self) -> usize
+        ensures { result ≡ length (value_spelling (tree self.now)) }
+    {
+        self.as_ref().spelled_len()
     }
 }
 
@@ -93,29 +104,29 @@ fn put_binary(out: &mut Vec<u8>, subtype: u8, bytes: &[u8])
 
 /// Puts the spelling of a value behind other bytes.
 #[tactic(auto, unfolding(crate::specs::Spelling::spelling, crate::specs::Spelling::array_spelling))]
-fn put_value(out: &mut Vec<u8>, value: &Value)
-    requires room { vec_len out.old + length (value_spelling (tree value.now)) ≤ vec_capacity out.old }
-    requires short { length (value_spelling (tree value.now)) < 2 ^ 31 }
-    ensures items { out.new.items ≡ out.old.items ++ value_spelling (tree value.now) }
-    ensures len { vec_len out.new ≡ vec_len out.old + length (value_spelling (tree value.now)) }
-    ensures sound { IsValue (tree value.now) }
+fn put_value(out: &mut Vec<u8>, value: &ValueRef<'_>)
+    requires room { vec_len out.old + length (value_spelling (tree_in value.now)) ≤ vec_capacity out.old }
+    requires short { length (value_spelling (tree_in value.now)) < 2 ^ 31 }
+    ensures items { out.new.items ≡ out.old.items ++ value_spelling (tree_in value.now) }
+    ensures len { vec_len out.new ≡ vec_len out.old + length (value_spelling (tree_in value.now)) }
+    ensures sound { IsValue (tree_in value.now) }
     ensures capacity { vec_capacity out.old ≤ vec_capacity out.new }
 {
     match value {
-        Value::Int32(number) => put(out, &number.to_le_bytes()),
-        Value::Int64(number) => put(out, &number.to_le_bytes()),
-        Value::Date(number) => put(out, &number.to_le_bytes()),
-        Value::Timestamp { seconds, increment } => {
+        ValueRef::Int32(number) => put(out, &number.to_le_bytes()),
+        ValueRef::Int64(number) => put(out, &number.to_le_bytes()),
+        ValueRef::Date(number) => put(out, &number.to_le_bytes()),
+        ValueRef::Timestamp { seconds, increment } => {
             put(out, &increment.to_le_bytes());
             put(out, &seconds.to_le_bytes());
         }
-        Value::String(text) => put_text(out, text.as_bytes()),
-        Value::Document(document) => put(out, document.bytes()),
-        Value::Array(list) => put(out, list.bytes()),
-        Value::Binary { subtype, bytes } => put_binary(out, *subtype, bytes.as_bytes()),
-        Value::ObjectId(id) => put(out, id),
-        Value::Boolean(set) => put(out, &[if *set { 1 } else { 0 }]),
-        Value::Null | Value::MinKey | Value::MaxKey => {}
+        ValueRef::String(text) => put_text(out, text.as_bytes()),
+        ValueRef::Document(document) => put(out, document.bytes()),
+        ValueRef::Array(list) => put(out, list.bytes()),
+        ValueRef::Binary { subtype, bytes } => put_binary(out, *subtype, bytes),
+        ValueRef::ObjectId(id) => put(out, id.as_bytes()),
+        ValueRef::Boolean(set) => put(out, &[if *set { 1 } else { 0 }]),
+        ValueRef::Null | ValueRef::MinKey | ValueRef::MaxKey => {}
     }
 }
 
@@ -133,12 +144,13 @@ fn seal(bytes: &mut [u8], at: usize, kind: u8)
 }
 
 /// Puts an element behind those that the bytes of a document spell.
-pub(crate) fn put_element(bytes: &mut Vec<u8>, name: &[u8], value: &Value)
+pub(crate) fn put_element(bytes: &mut Vec<u8>, name: &[u8], value: &ValueRef<'_>)
     requires ended { 5 ≤ vec_len bytes.old }
-    requires room { vec_len bytes.old + element_len name.now (tree value.now) ≤ vec_capacity bytes.old }
-    requires short { vec_len bytes.old + element_len name.now (tree value.now) < 2 ^ 31 }
-    ensures spelled { (inner : List ℕ) → bytes.old.items ≡ framed inner → bytes.new.items ≡ framed (inner ++ element_spelling name.now (tree value.now)) }
-    ensures sound { IsValue (tree value.now) }
+    requires room { vec_len bytes.old + element_len name.now (tree_in value.now) ≤ vec_capacity bytes.old }
+    requires short { vec_len bytes.old + element_len name.now (tree_in value.now) < 2 ^ 31 }
+    ensures spelled { (inner : List ℕ) → bytes.old.items ≡ framed inner → bytes.new.items ≡ framed (inner ++ element_spelling name.now (tree_in value.now)) }
+    ensures sound { IsValue (tree_in value.now) }
+    ensures len { vec_len bytes.new ≡ vec_len bytes.old + element_len name.now (tree_in value.now) }
 {
     let last = bytes.len() - 1;
     put(bytes, name);
@@ -146,4 +158,23 @@ pub(crate) fn put_element(bytes: &mut Vec<u8>, name: &[u8], value: &Value)
     put_value(bytes, value);
     put(bytes, &[0]);
     seal(bytes.as_mut_slice(), last, value.type_byte());
+}
+
+/// The same in room that is made. Where memory runs out, nothing is put.
+pub(crate) fn put_more(
+    bytes: &mut Vec<u8>,
+    name: &[u8],
+    value: &ValueRef<'_>,
+) -> Result<(), AllocError>
+    requires ended { 5 ≤ vec_len bytes.old }
+    requires short { vec_len bytes.old + element_len name.now (tree_in value.now) < 2 ^ 31 }
+    ensures spelled { OnOk result ((inner : List ℕ) → bytes.old.items ≡ framed inner → bytes.new.items ≡ framed (inner ++ element_spelling name.now (tree_in value.now))) }
+    ensures sound { OnOk result (IsValue (tree_in value.now)) }
+    ensures len { OnOk result (vec_len bytes.new ≡ vec_len bytes.old + element_len name.now (tree_in value.now)) }
+    ensures err { OnErr result (bytes.new.items ≡ bytes.old.items) }
+{
+    let more = name.len() + 2 + value.spelled_len();
+    bytes.reserve(more)?;
+    put_element(bytes, name, value);
+    Ok(())
 }

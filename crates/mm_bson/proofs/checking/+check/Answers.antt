@@ -1,10 +1,10 @@
-use Rattle.std.proofs.Common.{◌≡◌, ◌<◌, length, Some, None, Result, Ok, Err, refl, sym, ap, ◌∙◌, arith}
+use Rattle.std.proofs.Common.{◌≡◌, ◌<◌, length, Result, Ok, Err, refl, sym, ap, ◌∙◌, arith}
 use Rattle.std.proofs.lemmas.Result.{err_from_is_err_and}
 use Rattle.mm_bson.specs.Tree.{Elements, no_elements, element, append}
 use Rattle.mm_bson.specs.declared.fault.BsonFault.{BsonFault}
-use Rattle.mm_bson.specs.Reading.{nested_at, next_due, elements_at}
+use Rattle.mm_bson.specs.Reading.{nested_at, elements_at}
 use Rattle.mm_bson.specs.Piece.{piece}
-use Rattle.mm_bson.proofs.Steps.{with_front, append-none, goes_on, stops, is_done, nested-zero, nested-fails, nested-ends, nested-unended}
+use Rattle.mm_bson.proofs.Loop.{with_front, goes_on, stops, is_done, nested-zero, nested-fails, nested-ends, nested-unended}
 use Rattle.mm_bson.proofs.Checks.{first_small, next_small, head_fails, inside_fails, element_passes, text_passes, plain_passes}
 use Rattle.mm_bson.proofs.checking.+check.Goals as goal
 

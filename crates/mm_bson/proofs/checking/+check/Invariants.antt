@@ -2,7 +2,7 @@ use Rattle.std.proofs.Common.{◌≡◌, ℕ, ◌+◌, ◌*◌, ◌≤◌, lengt
 use Rattle.std.specs.Prelude.{IfSome}
 use Rattle.mm_bson.specs.Tree.{Elements}
 use Rattle.mm_bson.specs.Reading.{elements_at, nested_at}
-use Rattle.mm_bson.proofs.Steps.{with_front}
+use Rattle.mm_bson.proofs.Loop.{with_front}
 use Rattle.mm_bson.proofs.checking.+check.Given as goal
 
 abbrev pub decreases-nested : goal.decreases-nested

@@ -1,7 +1,4 @@
-use Rattle.std.proofs.Common.{subst, sym, arith}
-use Rattle.std.specs.Prelude.{IsTrue, ◌↔◌}
-use Rattle.mm_bson.specs.Tree.{Elements}
-use Rattle.mm_bson.specs.Spelling.{IsDocument, spelling}
+use Rattle.std.proofs.Common.{arith}
 use Rattle.mm_bson.proofs.Checks.{judged}
 use Rattle.mm_bson.proofs.checking.is_document.Goals as goal
 

@@ -1,6 +1,6 @@
 use Rattle.std.proofs.Common.{sym}
 use Rattle.mm_bson.proofs.Numbered.{unnamed_again}
-use Rattle.mm_bson.proofs.Holding.{array_spelling_is}
+use Rattle.mm_bson.proofs.Walks.{array_spelling_is}
 use Rattle.mm_bson.proofs.laws.arrays_are_documents.Goals as goal
 
 pub returns-clause-spelled : goal.returns-clause-spelled

@@ -1,4 +1,4 @@
-use Rattle.std.proofs.Common.{◌≡◌, ◌+◌, ◌*◌, ◌≤◌, length}
+use Rattle.std.proofs.Common.{◌≡◌, ◌+◌, ◌*◌, ◌≤◌}
 use Rattle.mm_bson.specs.Tree.{tree_depth, depth, values_depth}
 use Rattle.mm_bson.specs.View.{tree_in}
 use Rattle.mm_bson.specs.Walk.{size, values_size}

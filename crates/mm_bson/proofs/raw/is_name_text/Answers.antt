@@ -1,6 +1,4 @@
-use Rattle.std.proofs.Common.{◌≡◌, Bool, true, false, List, ℕ, sym}
-use Rattle.std.specs.Prelude.{MatchBool}
-use Rattle.std.specs.Str.{is_utf8}
+use Rattle.std.proofs.Common.{sym}
 use Rattle.std.proofs.lemmas.Str.{is_utf8-from_IsUtf8, IsUtf8-from_ascii}
 use Rattle.mm_bson.proofs.raw.is_name_text.Goals as goal
 

@@ -2,4 +2,4 @@ use Rattle.mm_bson.proofs.Building.{empty_document}
 use Rattle.mm_bson.proofs.doc.Doc.new.Goals as goal
 
 pub of_parts-requires : goal.of_parts-requires
-of_parts-requires c = rw (c.in_ok-bytes.ensures.items, c.new.ensures.items) empty_document
+of_parts-requires c = rw (c.in_ok-bytes.ensures, c.in_ok-from_slice.ensures.items, c.new.ensures.items) empty_document

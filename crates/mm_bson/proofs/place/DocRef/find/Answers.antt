@@ -1,4 +1,3 @@
-use Rattle.std.proofs.Common.{◌≡◌}
 use Rattle.mm_bson.specs.Path.{find}
 use Rattle.mm_bson.proofs.Paths.{find-shallow, found_in-shallow}
 use Rattle.mm_bson.proofs.place.DocRef.find.Goals as goal

@@ -1,5 +1,3 @@
-use Rattle.std.proofs.Common.{sym, ap, ◌∙◌}
-use Rattle.mm_bson.specs.Spelling.{spelling}
 use Rattle.mm_bson.proofs.Walks.{document_held, document_in-again}
 use Rattle.mm_bson.proofs.place.DocRef.of_spelled.Goals as goal
 

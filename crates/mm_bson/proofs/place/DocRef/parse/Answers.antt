@@ -1,9 +1,10 @@
-use Rattle.std.proofs.Common.{Result, Ok, Err, refl, sym, ap, subst, ◌≡◌, ◌∙◌, arith}
+use Rattle.std.proofs.Common.{Result, Ok, Err, sym, ap, ◌≡◌, ◌∙◌, arith}
 use Rattle.mm_bson.specs.declared.fault.BsonFault.{BsonFault}
 use Rattle.mm_bson.specs.Tree.{Elements}
 use Rattle.mm_bson.specs.Reading.{whole}
 use Rattle.mm_bson.proofs.Takes.{whole_takes}
 use Rattle.mm_bson.proofs.Again.{whole_again}
+use Rattle.mm_bson.proofs.Places.{whole_explained}
 use Rattle.mm_bson.proofs.Walks.{read_spells}
 use Rattle.mm_bson.proofs.place.DocRef.parse.Goals as goal
 
@@ -25,3 +26,6 @@ returns-in-Err-clause-only c = λ d fits e. absurd (differ (whole c.args.bytes.n
   where
     differ : (r : Result Elements BsonFault) (f : BsonFault) (d : Elements) → r ≡ Err f → r ≡ Ok d → ⊥
     differ r f d p q = cc
+
+pub returns-in-Err-clause-explained : goal.returns-in-Err-clause-explained
+returns-in-Err-clause-explained c = whole_explained c.args.bytes.now c.in-Err.fault (λ i. omega (arith, c.type_inv.bytes i)) c.in-Err.ensures
