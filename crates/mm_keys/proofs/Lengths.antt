@@ -1,12 +1,10 @@
 -- How long keys are, and the values in them.
-use Rattle.std.proofs.Common.{◌≡◌, ℕ, suc, ◌-◌, get_or, ◌+◌, ◌<◌, ◌≤◌, Bool, true, false, cond, List, [], ◌∷◌, ◌++◌, length, Option, Some, None, refl, sym, ap, ◌∙◌, arith}
-use Rattle.std.specs.Prelude.{option_and_then, option_map}
-use Rattle.std.specs.Borrow.{Bor}
+use Rattle.std.proofs.Common.{◌≡◌, ℕ, suc, ◌+◌, ◌≤◌, Bool, true, false, cond, List, [], ◌∷◌, ◌++◌, length, Option, Some, None, inl, inr, refl, sym, ap, subst, ◌∙◌, arith}
+use Rattle.std.specs.Prelude.{option_and_then, IsTrue, ◌↔◌}
 use Rattle.std.specs.Str.{bytes_eq}
-use Rattle.std.proofs.lemmas.List.{length-append, take_all}
-use Rattle.mm_bson.specs.declared.doc.Value.{Value}
+use Rattle.std.proofs.lemmas.List.{length-append}
 use Rattle.mm_bson.specs.declared.doc.Element.{Element}
-use Rattle.mm_bson.specs.View.{tree, elements_of}
+use Rattle.mm_bson.specs.View.{elements_of}
 use Rattle.mm_bson.specs.Tree.{Tree, document, Elements, no_elements, element, append}
 use Rattle.mm_bson.specs.Path.{names, find, onward, value_at, value_at_path}
 use Rattle.mm_bson.specs.Spelling.{spelling, framed, elements_spelling, value_spelling, element_len}
@@ -14,7 +12,7 @@ use Rattle.mm_bson.proofs.Loop.{append_assoc}
 use Rattle.mm_bson.proofs.Copies.{others}
 use Rattle.mm_bson.proofs.Building.{spelling_len}
 use Rattle.mm_keys.specs.Specification.{fields}
-use Rattle.mm_keys.specs.Key.{keyed, key, key_len}
+use Rattle.mm_keys.specs.Key.{keyed, key, key_len, IsArray, HasArray}
 
 -- ---- values
 
@@ -53,10 +51,6 @@ value_at-within (name ∷ others) es t found = by others (find name es) refl fou
 pub value-within : (path : List ℕ) (d : Elements) (t : Tree) → value_at_path path d ≡ Some t → length (value_spelling t) ≤ length (spelling d)
 value-within path d t found = omega (arith, value_at-within (names path) d t found, spelling_len d)
 
-pub found-within : (path : List ℕ) (d : Elements) (found : Bor Value) (o : Option (Bor Value)) → o ≡ Some found → option_map (λ v. tree v.now) o ≡ value_at_path path d
-    → length (value_spelling (tree found.now)) ≤ length (spelling d)
-found-within path d found o is given = value-within path d (tree found.now) (sym given ∙ ap (option_map (λ v. tree v.now)) is)
-
 -- ---- keys
 
 pub key_len-none : (d : Elements) → key_len d no_elements ≡ 5
@@ -77,27 +71,27 @@ pub fields_are : (xs : List Element) → fields (elements_of xs) ≡ length xs
 fields_are [] = refl
 fields_are (x ∷ xs) = ap suc (fields_are xs)
 
--- the fields of a list that is not empty are its first and the ones behind it
-pub first_is : (first : Element) (xs : List Element) → 0 < length xs → first ≡ get_or xs 0 first → elements_of xs ≡ element first.name (tree first.value) (elements_of (others xs))
-first_is first [] lt e = absurd (omega arith)
-first_is first (x ∷ xs) lt e = rw (others_are x xs) (ap (λ (y : Element). element y.name (tree y.value) (elements_of xs)) (sym e))
-  where
-    others_are : (x : Element) (xs : List Element) → others (x ∷ xs) ≡ xs
-    others_are x xs =
-        let n : suc (length xs) - 1 ≡ length xs = omega arith in
-        rw n (take_all (length xs) xs (omega arith))
-
-pub none_left : (xs : List Element) → length xs < 1 → elements_of xs ≡ no_elements
-none_left [] lt = refl
-none_left (x ∷ xs) lt = absurd (omega arith)
-
 -- one more field behind those of a key
 module _ (d done : Elements) (spec : Elements) (all : Elements) (so_far : append done (key d spec) ≡ all) where
   pub key_on : (path : List ℕ) (t value : Tree) (rest new : Elements) → spec ≡ element path t rest → value ≡ keyed path d → new ≡ append done (element [] value no_elements) → append new (key d rest) ≡ all
   key_on path t value rest new is same pushed =
       rw (pushed, same, append_assoc done (element [] (keyed path d) no_elements) (key d rest)) (ap (λ (s : Elements). append done (key d s)) (sym is) ∙ so_far)
 
-  pub key_fits : (path : List ℕ) (t value : Tree) (rest : Elements) → spec ≡ element path t rest → value ≡ keyed path d → length (spelling done) + element_len [] value + key_len d rest ≡ length (spelling all) + 5
-  key_fits path t value rest is same =
-      let first : key_len d spec ≡ (2 + length (value_spelling value)) + key_len d rest = ap (key_len d) is ∙ key_len-first d path t rest ∙ ap (λ (v : Tree). (2 + length (value_spelling v)) + key_len d rest) (sym same) in
-      omega (arith, spelling_len-append done (key d spec), ap (λ (s : Elements). length (spelling s)) so_far, first)
+-- ---- arrays
+
+pub arrays_on : (d : Elements) (path : List ℕ) (t value : Tree) (spec rest : Elements) (All : Type 0) → spec ≡ element path t rest → value ≡ keyed path d → {b : Bool} → IsTrue b ↔ IsArray value → b ≡ false
+    → HasArray d spec ↔ All → HasArray d rest ↔ All
+arrays_on d path t value spec rest All split same {b} test is_not so_far =
+    let none : IsArray (keyed path d) → ⊥ = λ h. by b is_not (test.1 (subst IsArray (sym same) h)) in
+    (λ h. so_far.0 (subst (HasArray d) (sym split) (inr h)), λ a. behind (subst (HasArray d) split (so_far.1 a)) none)
+  where
+    by : (b : Bool) → b ≡ false → IsTrue b → ⊥
+    by true e h = cc
+    by false e h = cc
+
+    behind : HasArray d (element path t rest) → (IsArray (keyed path d) → ⊥) → HasArray d rest
+    behind (inl h) none = absurd (none h)
+    behind (inr h) none = h
+
+pub no_arrays : (d rest spec : Elements) → rest ≡ no_elements → HasArray d rest ↔ HasArray d spec → HasArray d spec → ⊥
+no_arrays d rest spec none so_far h = subst (HasArray d) none (so_far.1 h)

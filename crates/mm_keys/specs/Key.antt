@@ -39,3 +39,8 @@ pub record HasLongKey (d spec : Elements) (len : ℕ) : Type 0 where
   pub no_array : HasArray d spec → ⊥
   pub long : 1024 < len
   pub counted : len ≡ key_len d spec
+
+-- no element has a name, as in each key
+abbrev pub AreNameless : Elements → Type 0
+AreNameless no_elements = Unit {0}
+AreNameless (element name t es) = (name ≡ []) × AreNameless es

@@ -1,15 +1,14 @@
 //! The key of a document.
 
-ghost use Rattle.std.specs.Prelude.{◌≡◌, ◌↔◌, ◌≤◌, ◌<◌, ◌^◌, ℕ, length, IsTrue, IfOk, OnOk, IsErrOf};
-ghost use Rattle.mm_bson.specs.Tree.{tree_depth};
-ghost use Rattle.mm_bson.specs.View.{tree, elements_of};
-ghost use Rattle.mm_bson.specs.Spelling.{value_spelling};
-ghost use Rattle.mm_keys.specs.Specification.{fields as field_count};
-ghost use Rattle.mm_keys.specs.Key.{key as key_in, keyed, key_len, IsArray, HasArray, HasKey, HasLongKey};
+ghost use Rattle.std.specs.Prelude.{◌≡◌, ◌↔◌, ◌+◌, ◌<◌, ◌≤◌, ◌^◌, [], ℕ, length, IsTrue, IfOk, OnOk, IsErrOf};
+ghost use Rattle.mm_bson.specs.Tree.{tree_depth, no_elements, element, append};
+ghost use Rattle.mm_bson.specs.View.{tree_in};
+ghost use Rattle.mm_bson.specs.Spelling.{spelling, value_spelling, element_len};
+ghost use Rattle.mm_keys.specs.Key.{key as key_in, keyed, IsArray, HasArray, HasKey, HasLongKey};
 
 use crate::fault::KeyFault;
 use crate::specification::KeySpec;
-use mm_bson::{Doc, Element, Text, Value};
+use mm_bson::{Doc, DocRef, Text, TextRef, Value, ValueRef};
 use std::alloc::{AllocError, Global};
 
 /// The most bytes that a key has.
@@ -21,84 +20,38 @@ const EMPTY_LEN: usize = 5;
 /// The bytes of an element without its name and value: the type and a 00.
 const ELEMENT_LEN: usize = 2;
 
-/// Whether the path leads to an array.
-fn leads_to_array(doc: &Doc, path: &Text) -> bool
-    ensures { IsTrue result ↔ IsArray (keyed path.now doc.now) }
+/// The value that the path gives to the key: null where it is missing.
+fn keyed_at<'a>(doc: &DocRef<'a>, path: &TextRef<'_>) -> ValueRef<'a>
+    ensures value { tree_in result ≡ keyed path.now doc.now }
+    ensures shallow { tree_depth (tree_in result) < 100 }
+    ensures short { length (value_spelling (tree_in result)) < 2 ^ 31 }
 {
-    match doc.get(path.as_str()) {
-        Some(Value::Array(_)) => true,
-        _ => false,
+    doc.is_built();
+    match doc.get_bytes(path.as_bytes()) {
+        Some(value) => value,
+        None => ValueRef::Null,
     }
 }
 
-fn has_array(doc: &Doc, fields: &[Element]) -> bool
-    ensures { IsTrue result ↔ HasArray doc.now (elements_of fields.now) }
+fn is_array(value: &ValueRef<'_>) -> bool
+    ensures { IsTrue result ↔ IsArray (tree_in value.now) }
 {
-    let mut rest = fields;
-    while let [first, others @ ..] = rest {
-        if leads_to_array(doc, &first.name) {
-            return true;
-        }
-        rest = others;
-    }
-    false
+    matches!(value, ValueRef::Array(_))
 }
 
-/// How many bytes the value at the path has: no more than its document.
-fn value_len(doc: &Doc, path: &Text) -> usize
-    ensures len { result ≡ length (value_spelling (keyed path.now doc.now)) }
-    ensures short { result < 2 ^ 31 }
+/// Puts a field behind those of a key, which has `len` bytes then. Past the
+/// most bytes nothing more is put.
+fn put(alloc: Global, key: &mut Doc, len: usize, value: &ValueRef<'_>) -> Result<(), AllocError>
+    requires levels { tree_depth (tree_in value.now) < 100 }
+    requires counted { len ≤ 1024 → length (spelling key.old) + element_len [] (tree_in value.now) ≡ len }
+    ensures { OnOk result (len ≤ 1024 → key.new ≡ append key.old (element [] (tree_in value.now) no_elements)) }
 {
-    let whole = doc.bytes();
-    match doc.get(path.as_str()) {
-        Some(value) => {
-            let len = value.spelled_len();
-            let within = len <= whole.len();
-            prove!(within);
-            len
-        }
-        None => 0,
+    if MAX_KEY_LEN < len {
+        return Ok(());
     }
-}
-
-/// How many bytes the key has, which may be more than a document's.
-fn len_of_key(doc: &Doc, fields: &[Element]) -> usize
-    requires { field_count (elements_of fields.now) ≤ 31 }
-    ensures { result ≡ key_len doc.now (elements_of fields.now) }
-{
-    let mut len = EMPTY_LEN;
-    let mut rest = fields;
-    while let [first, others @ ..] = rest {
-        len += ELEMENT_LEN + value_len(doc, &first.name);
-        rest = others;
-    }
-    len
-}
-
-/// The value at the path again, or null.
-fn keyed_value(doc: &Doc, path: &Text) -> Result<Value, AllocError>
-    ensures value { IfOk result (λ v. tree v ≡ keyed path.now doc.now) }
-    ensures shallow { tree_depth (keyed path.now doc.now) < 100 }
-{
-    match doc.get(path.as_str()) {
-        Some(value) => value.copy(),
-        None => Ok(Value::Null),
-    }
-}
-
-fn built(alloc: Global, doc: &Doc, fields: &[Element]) -> Result<Doc, AllocError>
-    requires { key_len doc.now (elements_of fields.now) ≤ 1024 }
-    ensures { IfOk result (λ k. k ≡ key_in doc.now (elements_of fields.now)) }
-{
-    let mut key = Doc::new(alloc)?;
-    let mut rest = fields;
-    while let [first, others @ ..] = rest {
-        let name = Text::from_str(alloc, "")?;
-        let value = keyed_value(doc, &first.name)?;
-        key.push(name, value)?;
-        rest = others;
-    }
-    Ok(key)
+    let name = Text::from_str(alloc, "")?;
+    let value = Value::copy_of(alloc, value)?;
+    key.push(name, value)
 }
 
 /// The key of a document: for each path the value there, or null where it is
@@ -110,13 +63,31 @@ pub fn key_of(alloc: Global, doc: &Doc, spec: &KeySpec) -> Result<Doc, KeyFault>
     ensures array { IsErrOf result KeyFault.ArrayKey → HasArray doc.now spec.now }
     ensures long { (len : ℕ) → IsErrOf result (KeyFault.KeyTooLong len) → HasLongKey doc.now spec.now len }
 {
-    let fields = spec.document().elements();
-    if has_array(doc, fields) {
-        return Err(KeyFault::ArrayKey);
+    key_of_in_place(alloc, &doc.as_ref(), spec)
+}
+
+/// The key of a document in place, as `key_of` gives it. Each path is looked up
+/// once, and no more than 1024 bytes are built.
+pub fn key_of_in_place(alloc: Global, doc: &DocRef<'_>, spec: &KeySpec) -> Result<Doc, KeyFault>
+    ensures ok { IfOk result (λ k. k ≡ key_in doc.now spec.now) }
+    ensures has { OnOk result (HasKey doc.now spec.now) }
+    ensures array { IsErrOf result KeyFault.ArrayKey → HasArray doc.now spec.now }
+    ensures long { (len : ℕ) → IsErrOf result (KeyFault.KeyTooLong len) → HasLongKey doc.now spec.now len }
+{
+    let document = spec.document();
+    let mut rest = document.as_ref().fields();
+    let mut key = Doc::new(alloc)?;
+    let mut len = EMPTY_LEN;
+    'fields: while let Some(field) = rest.next() {
+        let value = keyed_at(doc, &field.name);
+        if is_array(&value) {
+            return Err(KeyFault::ArrayKey);
+        }
+        len += ELEMENT_LEN + value.spelled_len();
+        put(alloc, &mut key, len, &value)?;
     }
-    let len = len_of_key(doc, fields);
     if len > MAX_KEY_LEN {
         return Err(KeyFault::KeyTooLong { len: len as u64 });
     }
-    Ok(built(alloc, doc, fields)?)
+    Ok(key)
 }

@@ -3,41 +3,31 @@
 ghost use Rattle.std.specs.Prelude.{◌≡◌};
 ghost use Rattle.std.specs.Cmp.{IsTotalOrder};
 ghost use Rattle.mm_bson.specs.Tree.{Elements};
-ghost use Rattle.mm_bson.specs.View.{tree, elements_of};
-ghost use Rattle.mm_bson.specs.Order.{compare};
+ghost use Rattle.mm_bson.specs.View.{tree_in};
 ghost use Rattle.mm_keys.specs.KeyOrder.{by_sign, first_sign, after_first, key_compare, FirstDifferenceDecides, ShorterIsLess, EqualKeysAgree};
 
 use crate::specification::KeySpec;
-use mm_bson::{Doc, Element, Value, cmp};
+use mm_bson::{Doc, DocRef, Fields, ValueRef};
 use std::cmp::Ordering;
 
 /// An order, turned round where the sign is below 0.
-fn turned(sign: &Value, order: Ordering) -> Ordering
-    ensures { result ≡ by_sign (tree sign.now) order }
+fn turned(sign: &ValueRef<'_>, order: Ordering) -> Ordering
+    ensures { result ≡ by_sign (tree_in sign.now) order }
 {
     match sign {
-        Value::Int32(number) if *number < 0 => order.reverse(),
+        ValueRef::Int32(number) if *number < 0 => order.reverse(),
         _ => order,
     }
 }
 
-/// The order of two values by the first of the fields.
-fn by_first(fields: &[Element], x: &Value, y: &Value) -> Ordering
-    ensures { result ≡ first_sign (elements_of fields.now) (compare (tree x.now) (tree y.now)) }
+/// An order by the sign of the next field of a specification.
+fn by_next(signs: &mut Fields<'_>, order: Ordering) -> Ordering
+    ensures turned { result ≡ first_sign signs.old order }
+    ensures after { signs.new ≡ after_first signs.old }
 {
-    match fields {
-        [] => cmp(x, y),
-        [field, ..] => turned(&field.value, cmp(x, y)),
-    }
-}
-
-/// The fields behind the first.
-fn after(fields: &[Element]) -> &[Element]
-    ensures { elements_of result.now ≡ after_first (elements_of fields.now) }
-{
-    match fields {
-        [] => fields,
-        [_first, others @ ..] => others,
+    match signs.next() {
+        None => order,
+        Some(field) => turned(&field.value, order),
     }
 }
 
@@ -47,23 +37,25 @@ fn after(fields: &[Element]) -> &[Element]
 pub fn key_cmp(a: &Doc, b: &Doc, spec: &KeySpec) -> Ordering
     ensures { result ≡ key_compare spec.now a.now b.now }
 {
-    let mut left = a.elements();
-    let mut right = b.elements();
-    let mut fields = spec.document().elements();
-    loop {
-        match (left, right) {
-            ([], []) => return Ordering::Equal,
-            ([], [_y, _after @ ..]) => return Ordering::Less,
-            ([_x, _after @ ..], []) => return Ordering::Greater,
-            ([x, after_x @ ..], [y, after_y @ ..]) => {
-                match by_first(fields, &x.value, &y.value) {
-                    Ordering::Equal => {}
-                    other => return other,
-                }
-                left = after_x;
-                right = after_y;
-                fields = after(fields);
-            }
+    key_cmp_in_place(&a.as_ref(), &b.as_ref(), spec)
+}
+
+/// The order of two keys in place, that of `key_cmp`.
+pub fn key_cmp_in_place(a: &DocRef<'_>, b: &DocRef<'_>, spec: &KeySpec) -> Ordering
+    ensures { result ≡ key_compare spec.now a.now b.now }
+{
+    let mut left = a.fields();
+    let mut right = b.fields();
+    let mut signs = spec.document().as_ref().fields();
+    'fields: loop {
+        match (left.next(), right.next()) {
+            (None, None) => return Ordering::Equal,
+            (None, Some(_y)) => return Ordering::Less,
+            (Some(_x), None) => return Ordering::Greater,
+            (Some(x), Some(y)) => match by_next(&mut signs, x.value.cmp(&y.value)) {
+                Ordering::Equal => {}
+                other => return other,
+            },
         }
     }
 }
