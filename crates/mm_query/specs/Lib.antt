@@ -1,3 +1,4 @@
 pub mod Bounds
 pub mod Form
 pub mod Match
+pub mod Selection

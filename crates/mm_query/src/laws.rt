@@ -3,7 +3,9 @@
 ghost use Rattle.std.specs.Prelude.{◌↔◌, Bool, codes};
 ghost use Rattle.mm_query.specs.declared.operator.Operator.TheVariants.{In, Nin, Ne};
 ghost use Rattle.mm_bson.specs.Tree.{Tree, document, array, Elements, no_elements, element, item, no_values};
+ghost use Rattle.std.specs.Bool.{Decides};
 ghost use Rattle.mm_query.specs.Match.{Equals, HoldsAt, Matches};
+ghost use Rattle.mm_query.specs.Selection.{selects};
 
 /// The empty filter matches each document.
 pub fn empty_filter_matches_all()
@@ -20,4 +22,9 @@ pub fn one_filter_is_itself()
 pub fn contraries()
     ensures nin { (u t : Tree) (found : Bool) → HoldsAt Nin u t found ↔ (HoldsAt In u t found → ⊥) }
     ensures ne { (u t : Tree) (found : Bool) → HoldsAt Ne u t found ↔ (Equals u t → ⊥) }
+{}
+
+/// Matching can be told: the test `selects` is the relation.
+pub fn selects_what_matches()
+    ensures { (filter document : Elements) → Decides (selects filter document) (Matches filter document) }
 {}

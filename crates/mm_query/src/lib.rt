@@ -11,7 +11,7 @@
 //!
 //! Not promised: that memory suffices, and that bounds are the narrowest. In
 //! specs/, Form says which documents are filters, Match when a document matches
-//! one, and Bounds what bounds are.
+//! one, Selection the same as a test, and Bounds what bounds are.
 #![tactic(auto)]
 
 mod bounds;
@@ -29,5 +29,7 @@ mod side;
 pub use bounds::Bounds;
 pub use fault::FilterFault;
 pub use filter::Filter;
-pub use laws::{contraries, empty_filter_matches_all, one_filter_is_itself};
+pub use laws::{
+    contraries, empty_filter_matches_all, one_filter_is_itself, selects_what_matches,
+};
 pub use memory::NoMemory;
