@@ -10,18 +10,21 @@ use Rattle.mm_outside.specs.Image.{Image, name_cmp, bytes_at}
 use Rattle.mm_outside.specs.Told.{Told, IfTold, image_of}
 use Rattle.mm_outside.proofs.Places.{same_name, different}
 use Rattle.mm_main.specs.declared.dump.Said.{Said}
+use Rattle.mm_main.specs.declared.dump.Said.TheVariants.{Lines, Refusal}
 use Rattle.mm_main.specs.declared.finding.What.{What}
 use Rattle.mm_main.specs.declared.finding.What.TheVariants.{File, Extent, Chain, Tiling, Document}
 use Rattle.mm_main.specs.declared.status.Status.{Status}
 use Rattle.mm_main.specs.declared.status.Status.TheVariants as status
 use Rattle.mm_main.specs.Contents.{Shows}
-use Rattle.mm_main.specs.Dumps.{Dumps, IsTheDump, DumpsFile, IsAlone, AreOwn, IsFirstStray, IsStray, said_status, said_text}
+use Rattle.mm_main.specs.Dumps.{IsADump, IsTheDump, DumpsFile, IsAlone, AreOwn, IsFirstStray, IsStray, said_status, said_text}
 use Rattle.mm_main.specs.Findings.{IsHeaded, IsFinding}
 use Rattle.mm_main.specs.Room.{file_len}
 use Rattle.mm_main.specs.Stored.{file_name}
 use Rattle.mm_main.specs.Streams.{Says}
-use Rattle.mm_main.specs.Top.{IsAmong}
+use Rattle.mm_main.specs.Texts.{disk_fault_text, no_memory_text}
+use Rattle.mm_main.specs.Top.{IsAmong, Dumps, SaysFault}
 use Rattle.mm_main.proofs.OneDump.{the_dump}
+use Rattle.mm_main.proofs.StatusSteps.{none_of_two, none_of, none_of_five}
 
 -- ---- the bytes that are read
 
@@ -118,17 +121,87 @@ own_alone image names is own some = record {
 -- what is said of the data file is said of the files
 pub dumps_data_file : (told now : Option Told) (names : List (List ℕ)) (E : Type 0) (said : Result Said E) → now ≡ told → IfTold told (λ t. names ≡ keys (image_of t)) → AreOwn names → 0 < length names
     → IfOk said (λ one. IfTold now (λ t. DumpsFile (bytes_at (image_of t) file_name) (said_status one) (said_text one)))
-    → IfOk said (λ one. IfTold told (λ t. Dumps (image_of t) (said_status one) (said_text one)))
+    → IfOk said (λ one. IfTold told (λ t. IsADump (image_of t) (said_status one) (said_text one)))
 dumps_data_file told now names E (Ok said) same is own some dumps = λ t tells. inr (inr (bytes_at (image_of t) file_name, own_alone (image_of t) names (is t tells) own some, dumps t (same ∙ tells)))
 dumps_data_file told now names E (Err fault) same is own some dumps = tt
 
 -- ---- what is said
 
 -- where the status is one of a dump, the text was said
-pub says_dumps : (image : Image) (result state told : Status) (text said : List ℕ) (before after : Option (List ℕ)) (C : Type 0) → IsAmong result (status.Done ∷ status.FilesRefused ∷ []) → state ≡ told → text ≡ said → Dumps image told said
+says_dumps : (image : Image) (result state told : Status) (text said : List ℕ) (before after : Option (List ℕ)) (C : Type 0) → IsAmong result (status.Done ∷ status.FilesRefused ∷ []) → state ≡ told → text ≡ said → IsADump image told said
     → ((result ≡ state) × Says text before after) ⊎ ((result ≡ status.SinkFault) × C) → (one : List ℕ) × IsTheDump image result one × Says one before after
 says_dumps image result state told text said before after C among is same dumps (inl done) =
-    (text, the_dump image result text (subst (λ (s : Status). Dumps image s text) (sym (done.0 ∙ is)) (subst (λ (bytes : List ℕ). Dumps image told bytes) (sym same) dumps)), done.1)
+    (text, the_dump image result text (subst (λ (s : Status). IsADump image s text) (sym (done.0 ∙ is)) (subst (λ (bytes : List ℕ). IsADump image told bytes) (sym same) dumps)), done.1)
 says_dumps image result state told text said before after C (inl done) is same dumps (inr failed) = absurd (let never : status.Done ≡ status.SinkFault = sym done ∙ failed.0 in cc)
 says_dumps image result state told text said before after C (inr (inl refused)) is same dumps (inr failed) = absurd (let never : status.FilesRefused ≡ status.SinkFault = sym refused ∙ failed.0 in cc)
 says_dumps image result state told text said before after C (inr (inr none)) is same dumps (inr failed) = absurd none
+
+-- the text was said, or the sink failed
+pub dumps_said : (told : Option Told) (result state : Status) (text : List ℕ) (one : Said) (before after : Option (List ℕ)) (C : Type 0) → state ≡ said_status one → text ≡ said_text one
+    → IfTold told (λ t. IsADump (image_of t) (said_status one) (said_text one)) → ((result ≡ state) × Says text before after) ⊎ ((result ≡ status.SinkFault) × C) → Dumps result told before after
+dumps_said told result state text one before after C is same dumps said = record {
+  among = among_of said;
+  said = λ among t tells. says_dumps (image_of t) result state (said_status one) text (said_text one) before after C among is same (dumps t tells) said;
+  fault = fault_of said;
+}
+  where
+    among_one : (s : Said) → IsAmong (said_status s) (status.Done ∷ status.DiskFault ∷ status.SinkFault ∷ status.NoMemory ∷ status.FilesRefused ∷ [])
+    among_one (Lines bytes) = inl refl
+    among_one (Refusal bytes) = inr (inr (inr (inr (inl refl))))
+
+    among_of : ((result ≡ state) × Says text before after) ⊎ ((result ≡ status.SinkFault) × C) → IsAmong result (status.Done ∷ status.DiskFault ∷ status.SinkFault ∷ status.NoMemory ∷ status.FilesRefused ∷ [])
+    among_of (inl done) = subst (λ (s : Status). IsAmong s (status.Done ∷ status.DiskFault ∷ status.SinkFault ∷ status.NoMemory ∷ status.FilesRefused ∷ [])) (sym (done.0 ∙ is)) (among_one one)
+    among_of (inr failed) = inr (inr (inl failed.0))
+
+    fault_one : (s : Said) → SaysFault (said_status s) before after
+    fault_one (Lines bytes) = tt
+    fault_one (Refusal bytes) = tt
+
+    fault_of : ((result ≡ state) × Says text before after) ⊎ ((result ≡ status.SinkFault) × C) → SaysFault result before after
+    fault_of (inl done) = subst (λ (s : Status). SaysFault s before after) (sym (done.0 ∙ is)) (fault_one one)
+    fault_of (inr failed) = subst (λ (s : Status). SaysFault s before after) (sym failed.0) tt
+
+-- a fault was said, or the sink failed
+dumps_fault : (told : Option Told) (result fault : Status) (before after : Option (List ℕ)) (C : Type 0)
+    → Dumps fault told before after → ((result ≡ fault) × C) → Dumps result told before after
+dumps_fault told result fault before after C dumps is = subst (λ (s : Status). Dumps s told before after) (sym is.0) dumps
+
+unsaid : (told : Option Told) (before after : Option (List ℕ)) → Dumps status.SinkFault told before after
+unsaid told before after = record {
+  among = inr (inr (inl refl));
+  said = λ among. absurd (none_of_two status.SinkFault status.Done status.FilesRefused (λ e. cc) (λ e. cc) among);
+  fault = tt;
+}
+
+pub dumps_disk_fault : (told : Option Told) (result : Status) (text : List ℕ) (before after : Option (List ℕ)) (C : Type 0) → text ≡ disk_fault_text
+    → ((result ≡ status.DiskFault) × Says text before after) ⊎ ((result ≡ status.SinkFault) × C) → Dumps result told before after
+dumps_disk_fault told result text before after C is (inl done) = dumps_fault told result status.DiskFault before after _ (record {
+  among = inr (inl refl);
+  said = λ among. absurd (none_of_two status.DiskFault status.Done status.FilesRefused (λ e. cc) (λ e. cc) among);
+  fault = subst (λ (bytes : List ℕ). Says bytes before after) is done.1;
+}) done
+dumps_disk_fault told result text before after C is (inr failed) = dumps_fault told result status.SinkFault before after C (unsaid told before after) failed
+
+pub dumps_no_memory : (told : Option Told) (result : Status) (text : List ℕ) (before after : Option (List ℕ)) (C : Type 0) → text ≡ no_memory_text
+    → ((result ≡ status.NoMemory) × Says text before after) ⊎ ((result ≡ status.SinkFault) × C) → Dumps result told before after
+dumps_no_memory told result text before after C is (inl done) = dumps_fault told result status.NoMemory before after _ (record {
+  among = inr (inr (inr (inl refl)));
+  said = λ among. absurd (none_of_two status.NoMemory status.Done status.FilesRefused (λ e. cc) (λ e. cc) among);
+  fault = subst (λ (bytes : List ℕ). Says bytes before after) is done.1;
+}) done
+dumps_no_memory told result text before after C is (inr failed) = dumps_fault told result status.SinkFault before after C (unsaid told before after) failed
+
+-- a dump refuses neither words nor a script
+pub dump_asks : {D : Type 0} (told : Option Told) (result : Status) (before after : Option (List ℕ)) (old new : D) → Dumps result told before after
+    → IsAmong result (status.Usage ∷ status.ScriptRefused ∷ status.SourceFault ∷ []) → new ≡ old
+dump_asks told result before after old new dumps among = absurd (never result dumps.among among)
+  where
+    never : (s : Status) → IsAmong s (status.Done ∷ status.DiskFault ∷ status.SinkFault ∷ status.NoMemory ∷ status.FilesRefused ∷ []) → IsAmong s (status.Usage ∷ status.ScriptRefused ∷ status.SourceFault ∷ []) → ⊥
+    never status.Done one other = none_of status.Done status.Usage status.ScriptRefused status.SourceFault (λ e. cc) (λ e. cc) (λ e. cc) other
+    never status.DiskFault one other = none_of status.DiskFault status.Usage status.ScriptRefused status.SourceFault (λ e. cc) (λ e. cc) (λ e. cc) other
+    never status.SinkFault one other = none_of status.SinkFault status.Usage status.ScriptRefused status.SourceFault (λ e. cc) (λ e. cc) (λ e. cc) other
+    never status.NoMemory one other = none_of status.NoMemory status.Usage status.ScriptRefused status.SourceFault (λ e. cc) (λ e. cc) (λ e. cc) other
+    never status.FilesRefused one other = none_of status.FilesRefused status.Usage status.ScriptRefused status.SourceFault (λ e. cc) (λ e. cc) (λ e. cc) other
+    never status.Usage one other = none_of_five status.Usage (λ e. cc) (λ e. cc) (λ e. cc) (λ e. cc) (λ e. cc) one
+    never status.ScriptRefused one other = none_of_five status.ScriptRefused (λ e. cc) (λ e. cc) (λ e. cc) (λ e. cc) (λ e. cc) one
+    never status.SourceFault one other = none_of_five status.SourceFault (λ e. cc) (λ e. cc) (λ e. cc) (λ e. cc) (λ e. cc) one

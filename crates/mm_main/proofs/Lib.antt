@@ -21,3 +21,4 @@ pub mod StreamSteps
 pub mod TopSteps
 pub mod WordSteps
 pub mod WordsSteps
+pub mod StatusSteps

@@ -7,7 +7,7 @@ use Rattle.mm_base.specs.Tables.{HasAll}
 use Rattle.mm_frames.specs.RecHeader.{rec_header_table}
 use Rattle.mm_main.specs.declared.file.Chain.{Chain}
 use Rattle.mm_main.specs.DataFile.{linked, HasFileHeader, HasExtentHeader, IsRecord, IsRest, AreRecords, Fit, last_from}
-use Rattle.mm_main.specs.Drafted.{end_from, link_of_last, Stands, LeadsOn, SameBetween}
+use Rattle.mm_main.specs.Drafted.{end_from, link_of_last, HoldsUpTo, LeadsOn, SameBetween}
 use Rattle.mm_main.specs.Room.{file_len, extent_at, first_at, request, block_len}
 use Rattle.mm_main.specs.Written.{SameBefore, SameBehind}
 use Rattle.mm_main.proofs.FileSteps.{header_stays_before, block_inside}
@@ -86,7 +86,7 @@ records_more old new at last prev x (y ∷ ps) p fit inside records is f more =
 -- a file's first record
 pub stands_first : (collection p headed file : List ℕ) (end : ℕ) (last : Option ℕ) → length file ≡ file_len → request (length p) ≤ file_len - first_at → HasFileHeader headed file_len → SameBefore extent_at headed file
     → HasExtentHeader file collection (pos first_at) → IsRecord file first_at (block_len first_at (length p)) (negsuc 0) (negsuc 0) p → IsRest file (first_at + block_len first_at (length p))
-    → end ≡ first_at + block_len first_at (length p) → last ≡ Some first_at → Stands collection (p ∷ []) file end last
+    → end ≡ first_at + block_len first_at (length p) → last ≡ Some first_at → HoldsUpTo collection (p ∷ []) file end last
 stands_first collection p headed file end last size room header same extent written rest end_is last_is = record {
   written = record { size = size; fit = (room, tt); holds = (header_stays_before headed file file_len same header, extent, (written, rest)) };
   at_is = end_is;
@@ -94,10 +94,10 @@ stands_first collection p headed file end last size room header same extent writ
 }
 
 -- one record more
-pub stands_more : (collection : List ℕ) (payloads : List (List ℕ)) (p old linking file : List ℕ) (at last end : ℕ) (end_last : Option ℕ) → Stands collection payloads old at (Some last) → length file ≡ file_len → request (length p) ≤ file_len - at
+pub stands_more : (collection : List ℕ) (payloads : List (List ℕ)) (p old linking file : List ℕ) (at last end : ℕ) (end_last : Option ℕ) → HoldsUpTo collection payloads old at (Some last) → length file ≡ file_len → request (length p) ≤ file_len - at
     → LeadsOn last at old linking → SameBefore last old linking → SameBehind (last + 16) old linking → SameBefore extent_at linking file → SameBetween first_at at linking file
     → HasExtentHeader file collection (pos at) → IsRecord file at (block_len at (length p)) (pos last) (negsuc 0) p → IsRest file (at + block_len at (length p))
-    → end ≡ at + block_len at (length p) → end_last ≡ Some at → Stands collection (payloads ++ p ∷ []) file end end_last
+    → end ≡ at + block_len at (length p) → end_last ≡ Some at → HoldsUpTo collection (payloads ++ p ∷ []) file end end_last
 stands_more collection [] p old linking file at last end end_last s size room leads before behind front between extent written rest end_is last_is = absurd (let never : pos last ≡ negsuc 0 = s.last_is in cc)
 stands_more collection (x ∷ ps) p old linking file at last end end_last s size room leads before behind front between extent written rest end_is last_is =
     let fit = s.written.fit in
@@ -133,21 +133,21 @@ stands_more collection (x ∷ ps) p old linking file at last end end_last s size
 
 pub first_of : (collection p headed file : List ℕ) (r : Result Chain NoMemory) → length file ≡ file_len → request (length p) ≤ file_len - first_at → HasFileHeader headed file_len → OnOk r (SameBefore extent_at headed file)
     → OnOk r (HasExtentHeader file collection (pos first_at)) → OnOk r (IsRecord file first_at (block_len first_at (length p)) (negsuc 0) (negsuc 0) p) → OnOk r (IsRest file (first_at + block_len first_at (length p)))
-    → IfOk r (λ chain. (chain.end ≡ first_at + block_len first_at (length p)) × (chain.last ≡ Some first_at)) → IfOk r (λ chain. Stands collection (p ∷ []) file chain.end chain.last)
+    → IfOk r (λ chain. (chain.end ≡ first_at + block_len first_at (length p)) × (chain.last ≡ Some first_at)) → IfOk r (λ chain. HoldsUpTo collection (p ∷ []) file chain.end chain.last)
 first_of collection p headed file (Ok chain) size room header same extent written rest is = stands_first collection p headed file chain.end chain.last size room header same extent written rest is.0 is.1
 first_of collection p headed file (Err e) size room header same extent written rest is = tt
 
-pub more_of : (collection : List ℕ) (payloads : List (List ℕ)) (p old linking file : List ℕ) (at last : ℕ) (r : Result Chain NoMemory) → Stands collection payloads old at (Some last) → length file ≡ file_len → request (length p) ≤ file_len - at
+pub more_of : (collection : List ℕ) (payloads : List (List ℕ)) (p old linking file : List ℕ) (at last : ℕ) (r : Result Chain NoMemory) → HoldsUpTo collection payloads old at (Some last) → length file ≡ file_len → request (length p) ≤ file_len - at
     → LeadsOn last at old linking → SameBefore last old linking → SameBehind (last + 16) old linking → OnOk r (SameBefore extent_at linking file) → OnOk r (SameBetween first_at at linking file)
     → OnOk r (HasExtentHeader file collection (pos at)) → OnOk r (IsRecord file at (block_len at (length p)) (pos last) (negsuc 0) p) → OnOk r (IsRest file (at + block_len at (length p)))
-    → IfOk r (λ chain. (chain.end ≡ at + block_len at (length p)) × (chain.last ≡ Some at)) → IfOk r (λ chain. Stands collection (payloads ++ p ∷ []) file chain.end chain.last)
+    → IfOk r (λ chain. (chain.end ≡ at + block_len at (length p)) × (chain.last ≡ Some at)) → IfOk r (λ chain. HoldsUpTo collection (payloads ++ p ∷ []) file chain.end chain.last)
 more_of collection payloads p old linking file at last (Ok chain) s size room leads before behind front between extent written rest is = stands_more collection payloads p old linking file at last chain.end chain.last s size room leads before behind front between extent written rest is.0 is.1
 more_of collection payloads p old linking file at last (Err e) s size room leads before behind front between extent written rest is = tt
 
 -- ---- where a chain ends
 
 -- without a last record the chain holds nothing yet
-pub none_stands : (collection : List ℕ) (payloads : List (List ℕ)) (file : List ℕ) (at : ℕ) → Stands collection payloads file at None → (payloads ≡ []) × (at ≡ first_at)
+pub none_stands : (collection : List ℕ) (payloads : List (List ℕ)) (file : List ℕ) (at : ℕ) → HoldsUpTo collection payloads file at None → (payloads ≡ []) × (at ≡ first_at)
 none_stands collection [] file at s = (refl, s.at_is)
 none_stands collection (x ∷ ps) file at s = absurd (never (first_at + block_len first_at (length x)) first_at ps (sym s.last_is))
   where
@@ -160,7 +160,7 @@ pub record Placed (at last : ℕ) : Type 0 where
   pub low : first_at ≤ last
   pub apart : last + 16 ≤ at
 
-pub last_placed : (collection : List ℕ) (payloads : List (List ℕ)) (file : List ℕ) (at last : ℕ) → Stands collection payloads file at (Some last) → Placed at last
+pub last_placed : (collection : List ℕ) (payloads : List (List ℕ)) (file : List ℕ) (at last : ℕ) → HoldsUpTo collection payloads file at (Some last) → Placed at last
 last_placed collection [] file at last s = absurd (let never : pos last ≡ negsuc 0 = s.last_is in cc)
 last_placed collection (x ∷ ps) file at last s =
     let fit = s.written.fit in
@@ -168,19 +168,19 @@ last_placed collection (x ∷ ps) file at last s =
     let chain = last_before (first_at + block_len first_at (length x)) first_at last ps fit.1 within (omega (arith, block_enough first_at (length x) fit.0)) (sym s.last_is) in
     record { low = chain.0; apart = omega (arith, chain.1, s.at_is) }
 
-pub stands_inside : (collection : List ℕ) (payloads : List (List ℕ)) (file : List ℕ) (at : ℕ) (last : Option ℕ) → Stands collection payloads file at last → (first_at ≤ at) × (at ≤ file_len)
+pub stands_inside : (collection : List ℕ) (payloads : List (List ℕ)) (file : List ℕ) (at : ℕ) (last : Option ℕ) → HoldsUpTo collection payloads file at last → (first_at ≤ at) × (at ≤ file_len)
 stands_inside collection payloads file at last s =
     let ends = end_inside first_at payloads s.written.fit (omega arith) in
     (omega (arith, ends.0, s.at_is), omega (arith, ends.1, s.at_is))
 
-pub first_stands : (collection : List ℕ) (payloads : List (List ℕ)) (file new p : List ℕ) (at : ℕ) (last : Option ℕ) (r : Result Chain NoMemory) → last ≡ None → Stands collection payloads file at last
-    → IfOk r (λ chain. Stands collection (p ∷ []) new chain.end chain.last) → IfOk r (λ chain. Stands collection (payloads ++ p ∷ []) new chain.end chain.last)
+pub first_stands : (collection : List ℕ) (payloads : List (List ℕ)) (file new p : List ℕ) (at : ℕ) (last : Option ℕ) (r : Result Chain NoMemory) → last ≡ None → HoldsUpTo collection payloads file at last
+    → IfOk r (λ chain. HoldsUpTo collection (p ∷ []) new chain.end chain.last) → IfOk r (λ chain. HoldsUpTo collection (payloads ++ p ∷ []) new chain.end chain.last)
 first_stands collection payloads file new p at last r none s stands =
-    let empty = (none_stands collection payloads file at (subst (λ (o : Option ℕ). Stands collection payloads file at o) none s)).0 in
-    subst (λ (ps : List (List ℕ)). IfOk r (λ chain. Stands collection (ps ++ p ∷ []) new chain.end chain.last)) (sym empty) stands
+    let empty = (none_stands collection payloads file at (subst (λ (o : Option ℕ). HoldsUpTo collection payloads file at o) none s)).0 in
+    subst (λ (ps : List (List ℕ)). IfOk r (λ chain. HoldsUpTo collection (ps ++ p ∷ []) new chain.end chain.last)) (sym empty) stands
 
-pub empty_end : (collection : List ℕ) (payloads : List (List ℕ)) (file : List ℕ) (at : ℕ) (last : Option ℕ) → last ≡ None → Stands collection payloads file at last → at ≡ first_at
-empty_end collection payloads file at last none s = (none_stands collection payloads file at (subst (λ (o : Option ℕ). Stands collection payloads file at o) none s)).1
+pub empty_end : (collection : List ℕ) (payloads : List (List ℕ)) (file : List ℕ) (at : ℕ) (last : Option ℕ) → last ≡ None → HoldsUpTo collection payloads file at last → at ≡ first_at
+empty_end collection payloads file at last none s = (none_stands collection payloads file at (subst (λ (o : Option ℕ). HoldsUpTo collection payloads file at o) none s)).1
 
-pub some_placed : (collection : List ℕ) (payloads : List (List ℕ)) (file : List ℕ) (at place : ℕ) (last : Option ℕ) → last ≡ Some place → Stands collection payloads file at last → Placed at place
-some_placed collection payloads file at place last some s = last_placed collection payloads file at place (subst (λ (o : Option ℕ). Stands collection payloads file at o) some s)
+pub some_placed : (collection : List ℕ) (payloads : List (List ℕ)) (file : List ℕ) (at place : ℕ) (last : Option ℕ) → last ≡ Some place → HoldsUpTo collection payloads file at last → Placed at place
+some_placed collection payloads file at place last some s = last_placed collection payloads file at place (subst (λ (o : Option ℕ). HoldsUpTo collection payloads file at o) some s)

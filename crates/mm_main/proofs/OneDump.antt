@@ -17,7 +17,7 @@ use Rattle.mm_main.specs.declared.status.Status.{Status}
 use Rattle.mm_main.specs.declared.status.Status.TheVariants as status
 use Rattle.mm_main.specs.Contents.{HoldsDocs, Shows, full_name, doc_lines}
 use Rattle.mm_main.specs.DataFile.{namespace_of}
-use Rattle.mm_main.specs.Dumps.{Dumps, DumpsFile, IsAlone, IsStray, IsTheDump}
+use Rattle.mm_main.specs.Dumps.{IsADump, DumpsFile, IsAlone, IsStray, IsTheDump}
 use Rattle.mm_main.specs.Findings.{extent_linking, place_link, IsOpened, Leads, offsets, end_of}
 use Rattle.mm_main.specs.Room.{extent_at, first_at}
 use Rattle.mm_main.specs.Stored.{file_name}
@@ -126,7 +126,7 @@ one_of_file file status.FilesRefused status.SourceFault x y a b = absurd b
 one_of_file file status.FilesRefused status.SinkFault x y a b = absurd b
 one_of_file file status.FilesRefused status.NoMemory x y a b = absurd b
 
-one_dump : (image : Image) (s t : Status) (x y : List ℕ) → Dumps image s x → Dumps image t y → Agree s t x y
+one_dump : (image : Image) (s t : Status) (x y : List ℕ) → IsADump image s x → IsADump image t y → Agree s t x y
 one_dump image s t x y (inl a) (inl b) = (a.1 ∙ sym b.1, a.2 ∙ sym b.2)
 one_dump image s t x y (inr (inl a)) (inr (inl b)) = (a.2 ∙ sym b.2, a.3 ∙ ap present_text (one_stray a.0 b.0 (keys image) a.1 b.1) ∙ sym b.3)
 one_dump image s t x y (inr (inr a)) (inr (inr b)) = one_of_file b.0 s t x y (subst (λ (file : List ℕ). DumpsFile file s x) (one_file a.0 b.0 image a.1 b.1) a.2) b.2
@@ -138,5 +138,5 @@ one_dump image s t x y (inr (inl a)) (inr (inr b)) = absurd (stray_alone a.0 b.0
 one_dump image s t x y (inr (inr a)) (inr (inl b)) = absurd (stray_alone b.0 a.0 image b.1 a.1)
 
 -- a dump is the only one
-pub the_dump : (image : Image) (state : Status) (text : List ℕ) → Dumps image state text → IsTheDump image state text
+pub the_dump : (image : Image) (state : Status) (text : List ℕ) → IsADump image state text → IsTheDump image state text
 the_dump image state text dumps = record { is = dumps; only = λ other said is. one_dump image other state said text is dumps }

@@ -4,9 +4,9 @@ use Rattle.mm_outside.specs.Told.{Told}
 use Rattle.mm_bson.specs.Tree.{Elements}
 use Rattle.mm_main.specs.declared.play.End.{End}
 use Rattle.mm_main.specs.declared.play.End.TheVariants.{Refused, Present, Played, SourceFailed, DiskFailed, NoMemory}
-use Rattle.mm_main.specs.Ends.{IfComing, Plays, PlayEnds, IsRefusal}
+use Rattle.mm_main.specs.Ends.{IfComing, ScriptEnds, PlayEnds, IsRefusal, IsUnasked}
 use Rattle.mm_main.specs.Script.{IsScript, IsFirstOther, most_bytes}
-use Rattle.mm_main.specs.Stored.{Began}
+use Rattle.mm_main.specs.Stored.{MayHaveBegun}
 use Rattle.mm_main.specs.Streams.{ReadsUpTo}
 use Rattle.mm_main.specs.Texts.{refusal_text}
 
@@ -16,14 +16,14 @@ first_of_names f [] x some is = absurd (omega arith)
 first_of_names f (y ∷ xs) x some is = (map f xs, ap (λ n. n ∷ map f xs) (ap f (sym is)))
 
 -- no call was made
-pub began_none : (old new : Option Told) → new ≡ old → Began old new
-began_none old new same = record { file = []; some = λ t is. (t, same ∙ is, inl refl) }
+pub begun_none : (old new : Option Told) → new ≡ old → MayHaveBegun old new
+begun_none old new same = record { file = []; some = λ t is. (t, same ∙ is, inl refl) }
 
 -- what is known of what was read is known of what was to come
 pub if_read : (P : List ℕ → Type 0) (bytes seen : List ℕ) (coming left : Option (List ℕ)) → ReadsUpTo (most_bytes + 1) bytes coming left → seen ≡ bytes → P seen → IfComing coming P
 if_read P bytes seen coming left reads same holds = λ all is. subst P (same ∙ (reads all is).0) holds
 
-pub plays_end : (collection : List ℕ) (docs : List Elements) (coming : Option (List ℕ)) (old new : Option Told) (end : End) → IfComing coming (IsScript collection docs) → Plays collection docs old new end → PlayEnds coming old new end
+pub plays_end : (collection : List ℕ) (docs : List Elements) (coming : Option (List ℕ)) (old new : Option Told) (end : End) → IfComing coming (IsScript collection docs) → ScriptEnds collection docs old new end → PlayEnds coming old new end
 plays_end collection docs coming old new (Refused line text) script plays = absurd plays
 plays_end collection docs coming old new (Present name text) script plays = (collection, docs, script, plays)
 plays_end collection docs coming old new (Played text) script plays = (collection, docs, script, plays)
@@ -37,4 +37,22 @@ refusal_ends line coming old new (Present name text) first same refusal = absurd
 refusal_ends line coming old new (Played text) first same refusal = absurd refusal
 refusal_ends line coming old new SourceFailed first same refusal = absurd refusal
 refusal_ends line coming old new DiskFailed first same refusal = absurd refusal
-refusal_ends line coming old new NoMemory first same refusal = began_none old new same
+refusal_ends line coming old new NoMemory first same refusal = begun_none old new same
+
+-- a script that was played isn't refused
+pub played_asks : {D : Type 0} (collection : List ℕ) (docs : List Elements) (old new : Option Told) (end : End) (before after : D) → ScriptEnds collection docs old new end → IsUnasked end before after
+played_asks collection docs old new (Refused line text) before after ends = absurd ends
+played_asks collection docs old new (Present name text) before after ends = tt
+played_asks collection docs old new (Played text) before after ends = tt
+played_asks collection docs old new SourceFailed before after ends = absurd ends
+played_asks collection docs old new DiskFailed before after ends = tt
+played_asks collection docs old new NoMemory before after ends = tt
+
+-- a refusal asks nothing
+pub unasked_same : {D : Type 0} (end : End) (old new : D) → new ≡ old → IsUnasked end old new
+unasked_same (Refused line text) old new same = same
+unasked_same (Present name text) old new same = tt
+unasked_same (Played text) old new same = tt
+unasked_same SourceFailed old new same = same
+unasked_same DiskFailed old new same = tt
+unasked_same NoMemory old new same = tt

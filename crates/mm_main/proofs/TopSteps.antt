@@ -1,5 +1,5 @@
 -- What playing promises, from what it came to.
-use Rattle.std.proofs.Common.{◌≡◌, ℕ, ◌+◌, ◌<◌, zero, suc, List, [], ◌∷◌, length, take, ap, ◌∙◌, arith, inl, inr, refl, Option, Some, None, subst, false, is_some, ◌⊎◌}
+use Rattle.std.proofs.Common.{◌≡◌, ℕ, ◌+◌, ◌<◌, zero, suc, List, [], ◌∷◌, length, take, string_bytes, ap, ◌∙◌, arith, inl, inr, refl, Option, Some, None, subst, false, is_some, ◌⊎◌}
 use Rattle.std.specs.FinMap.{get, keys, contains_key-keys}
 use Rattle.std.specs.Ordering.{eq_by_cmp}
 use Rattle.std.specs.List.{list_any}
@@ -12,8 +12,9 @@ use Rattle.mm_outside.proofs.NewFile.{place_of_file_written, place_of_other_file
 use Rattle.mm_bson.specs.Tree.{Elements}
 use Rattle.mm_main.specs.declared.play.End.{End}
 use Rattle.mm_main.specs.declared.play.End.TheVariants.{Refused, Present, Played, SourceFailed, DiskFailed, NoMemory}
+use Rattle.mm_main.specs.declared.status.Status.{Status}
 use Rattle.mm_main.specs.declared.status.Status.TheVariants as status
-use Rattle.mm_main.specs.Ends.{IfComing, IsAnyScript, PlayEnds, end_text, end_status}
+use Rattle.mm_main.specs.Ends.{IfComing, IsAnyScript, PlayEnds, IsUnasked, end_text, end_status}
 use Rattle.mm_main.specs.Contents.{full_name, doc_lines}
 use Rattle.mm_main.specs.Dumps.{IsAlone, IsTheDump}
 use Rattle.mm_main.specs.FirstFile.{IsFirstFile}
@@ -21,12 +22,13 @@ use Rattle.mm_main.specs.Lines.{lines}
 use Rattle.mm_main.specs.Inserts.{AreInserts}
 use Rattle.mm_main.specs.Room.{stored}
 use Rattle.mm_main.specs.Script.{IsFirstOther, HaveForm, most_bytes}
-use Rattle.mm_main.specs.Stored.{HasStored, Stores, Began, file_name}
+use Rattle.mm_main.specs.Stored.{HasStored, Stores, MayHaveBegun, file_name}
 use Rattle.mm_main.specs.Streams.{Says, SaysSome}
-use Rattle.mm_main.specs.Texts.{refusal_text}
-use Rattle.mm_main.specs.Top.{IsAmong, HasPlayed, OnlyAdds}
+use Rattle.mm_main.specs.Texts.{refusal_text, present_text}
+use Rattle.mm_main.specs.Top.{IsAmong, HasPlayed, Plays, SaysFault, OnlyAdds}
 use Rattle.mm_main.proofs.OneDump.{the_dump}
-use Rattle.mm_main.proofs.RunSteps.{began_none}
+use Rattle.mm_main.proofs.RunSteps.{begun_none}
+use Rattle.mm_main.proofs.StatusSteps.{none_of_two, none_of}
 
 -- ---- a script has no line of another form
 
@@ -75,15 +77,15 @@ dump_of_stored collection docs u s =
     let alone : IsAlone s.file (image_of u) = record { there = ap (λ p. p.file) s.synced; alone = s.alone } in
     the_dump _ _ _ (inr (inr (s.file, alone, (collection, stored docs, s.holds, refl))))
 
-began_stores : (collection : List ℕ) (docs : List Elements) (old new : Option Told) → Stores collection docs old new → Began old new
-began_stores collection docs old new s = record { file = s.file; some = λ t is. (asked (new_file_asks file_name s.file) t, s.made t is, cut_all (new_file_asks file_name s.file) t) }
+begun_stores : (collection : List ℕ) (docs : List Elements) (old new : Option Told) → Stores collection docs old new → MayHaveBegun old new
+begun_stores collection docs old new s = record { file = s.file; some = λ t is. (asked (new_file_asks file_name s.file) t, s.made t is, cut_all (new_file_asks file_name s.file) t) }
 
 -- ---- each clause
 
 says_as : (text same : List ℕ) (before after : Option (List ℕ)) → text ≡ same → Says text before after → Says same before after
 says_as text same before after is said = subst (λ (bytes : List ℕ). Says bytes before after) is said
 
-pub played_by : (coming : Option (List ℕ)) (old new : Option Told) (before after : Option (List ℕ)) (end : End) → PlayEnds coming old new end → Says (end_text end) before after
+played_by : (coming : Option (List ℕ)) (old new : Option Told) (before after : Option (List ℕ)) (end : End) → PlayEnds coming old new end → Says (end_text end) before after
     → end_status end ≡ status.Done → HasPlayed coming old new before after
 played_by coming old new before after (Refused line text) ends said done = absurd cc
 played_by coming old new before after (Present name text) ends said done = absurd cc
@@ -102,7 +104,7 @@ played_by coming old new before after SourceFailed ends said done = absurd cc
 played_by coming old new before after DiskFailed ends said done = absurd cc
 played_by coming old new before after NoMemory ends said done = absurd cc
 
-pub refused_by : (coming : Option (List ℕ)) (old new : Option Told) (before after : Option (List ℕ)) (end : End) → PlayEnds coming old new end → Says (end_text end) before after
+refused_by : (coming : Option (List ℕ)) (old new : Option Told) (before after : Option (List ℕ)) (end : End) → PlayEnds coming old new end → Says (end_text end) before after
     → end_status end ≡ status.ScriptRefused → (line : ℕ) × IfComing coming (IsFirstOther line) × Says (refusal_text line) before after
 refused_by coming old new before after (Refused line text) ends said done = (line, ends.2, says_as _ _ before after ends.0 said)
 refused_by coming old new before after (Present name text) ends said done = absurd cc
@@ -111,7 +113,7 @@ refused_by coming old new before after SourceFailed ends said done = absurd cc
 refused_by coming old new before after DiskFailed ends said done = absurd cc
 refused_by coming old new before after NoMemory ends said done = absurd cc
 
-pub refused_exactly_by : (coming : Option (List ℕ)) (old new : Option Told) (end : End) → PlayEnds coming old new end → (bytes : List ℕ) (line : ℕ) → coming ≡ Some bytes
+refused_exactly_by : (coming : Option (List ℕ)) (old new : Option Told) (end : End) → PlayEnds coming old new end → (bytes : List ℕ) (line : ℕ) → coming ≡ Some bytes
     → IsFirstOther line (take (most_bytes + 1) bytes) → IsAmong (end_status end) (status.ScriptRefused ∷ status.SourceFault ∷ status.SinkFault ∷ status.NoMemory ∷ [])
 refused_exactly_by coming old new (Refused n text) ends bytes line is first = inl refl
 refused_exactly_by coming old new (Present name text) ends bytes line is first = absurd (script_or_other _ line (ends.0, ends.1, ends.2 bytes is) first)
@@ -120,7 +122,7 @@ refused_exactly_by coming old new SourceFailed ends bytes line is first = inr (i
 refused_exactly_by coming old new DiskFailed ends bytes line is first = absurd (script_or_other _ line (ends.0, ends.1, ends.2 bytes is) first)
 refused_exactly_by coming old new NoMemory ends bytes line is first = inr (inr (inr (inl refl)))
 
-pub present_exactly_by : (coming : Option (List ℕ)) (old new : Option Told) (end : End) → PlayEnds coming old new end → (bytes : List ℕ) (t : Told) (name : List ℕ) → coming ≡ Some bytes
+present_exactly_by : (coming : Option (List ℕ)) (old new : Option Told) (end : End) → PlayEnds coming old new end → (bytes : List ℕ) (t : Told) (name : List ℕ) → coming ≡ Some bytes
     → IsAnyScript (take (most_bytes + 1) bytes) → old ≡ Some t → IsFirstFile (Some name) (keys (image_of t))
     → IsAmong (end_status end) (status.FilesRefused ∷ status.DiskFault ∷ status.SourceFault ∷ status.SinkFault ∷ status.NoMemory ∷ [])
 present_exactly_by coming old new (Refused n text) ends bytes t name is any told first = absurd (script_or_other _ n any (ends.2 bytes is))
@@ -130,7 +132,7 @@ present_exactly_by coming old new SourceFailed ends bytes t name is any told fir
 present_exactly_by coming old new DiskFailed ends bytes t name is any told first = inr (inl refl)
 present_exactly_by coming old new NoMemory ends bytes t name is any told first = inr (inr (inr (inr (inl refl))))
 
-pub complete_by : (coming : Option (List ℕ)) (old new : Option Told) (end : End) → PlayEnds coming old new end → (bytes : List ℕ) (t : Told) → coming ≡ Some bytes
+complete_by : (coming : Option (List ℕ)) (old new : Option Told) (end : End) → PlayEnds coming old new end → (bytes : List ℕ) (t : Told) → coming ≡ Some bytes
     → IsAnyScript (take (most_bytes + 1) bytes) → old ≡ Some t → keys (image_of t) ≡ []
     → IsAmong (end_status end) (status.Done ∷ status.DiskFault ∷ status.SourceFault ∷ status.SinkFault ∷ status.NoMemory ∷ [])
 complete_by coming old new (Refused n text) ends bytes t is any told none = absurd (script_or_other _ n any (ends.2 bytes is))
@@ -140,7 +142,7 @@ complete_by coming old new SourceFailed ends bytes t is any told none = inr (inr
 complete_by coming old new DiskFailed ends bytes t is any told none = inr (inl refl)
 complete_by coming old new NoMemory ends bytes t is any told none = inr (inr (inr (inr (inl refl))))
 
-pub among_by : (end : End) → IsAmong (end_status end) (status.Done ∷ status.ScriptRefused ∷ status.DiskFault ∷ status.SourceFault ∷ status.SinkFault ∷ status.NoMemory ∷ status.FilesRefused ∷ [])
+among_by : (end : End) → IsAmong (end_status end) (status.Done ∷ status.ScriptRefused ∷ status.DiskFault ∷ status.SourceFault ∷ status.SinkFault ∷ status.NoMemory ∷ status.FilesRefused ∷ [])
 among_by (Refused line text) = inr (inl refl)
 among_by (Present name text) = inr (inr (inr (inr (inr (inr (inl refl))))))
 among_by (Played text) = inl refl
@@ -148,13 +150,80 @@ among_by SourceFailed = inr (inr (inr (inl refl)))
 among_by DiskFailed = inr (inr (inl refl))
 among_by NoMemory = inr (inr (inr (inr (inr (inl refl)))))
 
-pub began_by : (coming : Option (List ℕ)) (old new : Option Told) (end : End) → PlayEnds coming old new end → Began old new
-began_by coming old new (Refused line text) ends = began_none old new ends.1
-began_by coming old new (Present name text) ends = began_none old new ends.3.1
-began_by coming old new (Played text) ends = began_stores ends.0 ends.1 old new ends.3.2
-began_by coming old new SourceFailed ends = began_none old new ends
-began_by coming old new DiskFailed ends = ends.3
-began_by coming old new NoMemory ends = ends
+begun_by : (coming : Option (List ℕ)) (old new : Option Told) (end : End) → PlayEnds coming old new end → MayHaveBegun old new
+begun_by coming old new (Refused line text) ends = begun_none old new ends.1
+begun_by coming old new (Present name text) ends = begun_none old new ends.3.1
+begun_by coming old new (Played text) ends = begun_stores ends.0 ends.1 old new ends.3.2
+begun_by coming old new SourceFailed ends = begun_none old new ends
+begun_by coming old new DiskFailed ends = ends.3
+begun_by coming old new NoMemory ends = ends
+
+present_by : (coming : Option (List ℕ)) (old new : Option Told) (before after : Option (List ℕ)) (end : End) → PlayEnds coming old new end → Says (end_text end) before after
+    → end_status end ≡ status.FilesRefused → IfComing coming IsAnyScript × (name : List ℕ) × IfTold old (λ t. IsFirstFile (Some name) (keys (image_of t))) × Says (present_text name) before after
+present_by coming old new before after (Refused line text) ends said is = absurd cc
+present_by coming old new before after (Present name text) ends said is = ((λ bytes tells. (ends.0, ends.1, ends.2 bytes tells)), string_bytes name, ends.3.2, says_as _ _ before after ends.3.0 said)
+present_by coming old new before after (Played text) ends said is = absurd cc
+present_by coming old new before after SourceFailed ends said is = absurd cc
+present_by coming old new before after DiskFailed ends said is = absurd cc
+present_by coming old new before after NoMemory ends said is = absurd cc
+
+fault_by : (before after : Option (List ℕ)) (end : End) → Says (end_text end) before after → SaysFault (end_status end) before after
+fault_by before after (Refused line text) said = tt
+fault_by before after (Present name text) said = tt
+fault_by before after (Played text) said = tt
+fault_by before after SourceFailed said = said
+fault_by before after DiskFailed said = said
+fault_by before after NoMemory said = said
+
+kept_by : (coming : Option (List ℕ)) (old new : Option Told) (end : End) → PlayEnds coming old new end → IsAmong (end_status end) (status.ScriptRefused ∷ status.SourceFault ∷ status.FilesRefused ∷ []) → new ≡ old
+kept_by coming old new (Refused line text) ends among = ends.1
+kept_by coming old new (Present name text) ends among = ends.3.1
+kept_by coming old new (Played text) ends among = absurd (none_of status.Done status.ScriptRefused status.SourceFault status.FilesRefused (λ e. cc) (λ e. cc) (λ e. cc) among)
+kept_by coming old new SourceFailed ends among = ends
+kept_by coming old new DiskFailed ends among = absurd (none_of status.DiskFault status.ScriptRefused status.SourceFault status.FilesRefused (λ e. cc) (λ e. cc) (λ e. cc) among)
+kept_by coming old new NoMemory ends among = absurd (none_of status.NoMemory status.ScriptRefused status.SourceFault status.FilesRefused (λ e. cc) (λ e. cc) (λ e. cc) among)
+
+-- what playing came to was said
+pub plays_said : (coming : Option (List ℕ)) (old new : Option Told) (before after : Option (List ℕ)) (end : End) → PlayEnds coming old new end → Says (end_text end) before after
+    → Plays (end_status end) coming old new before after
+plays_said coming old new before after end ends said = record {
+  among = among_by end;
+  played = played_by coming old new before after end ends said;
+  refused = refused_by coming old new before after end ends said;
+  refused_exactly = refused_exactly_by coming old new end ends;
+  present = present_by coming old new before after end ends said;
+  present_exactly = present_exactly_by coming old new end ends;
+  complete = complete_by coming old new end ends;
+  fault = fault_by before after end said;
+  kept = kept_by coming old new end ends;
+  begun = begun_by coming old new end ends;
+}
+
+-- it could not be said
+pub plays_unsaid : (coming : Option (List ℕ)) (old new : Option Told) (before after : Option (List ℕ)) (end : End) → PlayEnds coming old new end → Plays status.SinkFault coming old new before after
+plays_unsaid coming old new before after end ends = record {
+  among = inr (inr (inr (inr (inl refl))));
+  played = λ is. absurd cc;
+  refused = λ is. absurd cc;
+  refused_exactly = λ bytes line tells first. inr (inr (inl refl));
+  present = λ is. absurd cc;
+  present_exactly = λ bytes t name tells any told first. inr (inr (inr (inl refl)));
+  complete = λ bytes t tells any told none. inr (inr (inr (inl refl)));
+  fault = tt;
+  kept = λ among. absurd (none_of status.SinkFault status.ScriptRefused status.SourceFault status.FilesRefused (λ e. cc) (λ e. cc) (λ e. cc) among);
+  begun = begun_by coming old new end ends;
+}
+
+pub unasked_by : {D : Type 0} (end : End) (old new : D) → IsUnasked end old new → IsAmong (end_status end) (status.ScriptRefused ∷ status.SourceFault ∷ []) → new ≡ old
+unasked_by (Refused line text) old new unasked among = unasked
+unasked_by (Present name text) old new unasked among = absurd (none_of_two status.FilesRefused status.ScriptRefused status.SourceFault (λ e. cc) (λ e. cc) among)
+unasked_by (Played text) old new unasked among = absurd (none_of_two status.Done status.ScriptRefused status.SourceFault (λ e. cc) (λ e. cc) among)
+unasked_by SourceFailed old new unasked among = unasked
+unasked_by DiskFailed old new unasked among = absurd (none_of_two status.DiskFault status.ScriptRefused status.SourceFault (λ e. cc) (λ e. cc) among)
+unasked_by NoMemory old new unasked among = absurd (none_of_two status.NoMemory status.ScriptRefused status.SourceFault (λ e. cc) (λ e. cc) among)
+
+pub unsaid_asks : {D : Type 0} (old new : D) → IsAmong status.SinkFault (status.ScriptRefused ∷ status.SourceFault ∷ []) → new ≡ old
+unsaid_asks old new among = absurd (none_of_two status.SinkFault status.ScriptRefused status.SourceFault (λ e. cc) (λ e. cc) among)
 
 pub adds_by : (text : List ℕ) (before after : Option (List ℕ)) → SaysSome text before after → OnlyAdds before after
 adds_by text before after said = λ taken is. (take (said taken is).0 text, (said taken is).1)

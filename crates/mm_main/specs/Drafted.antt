@@ -38,7 +38,7 @@ link_of_last None = negsuc 0
 link_of_last (Some at) = pos at
 
 -- The file holds these payloads. Their blocks end at an offset, and the last record, if there is one, lies at another.
-pub record Stands (collection : List ℕ) (payloads : List (List ℕ)) (file : List ℕ) (at : ℕ) (last : Option ℕ) : Type 0 where
+pub record HoldsUpTo (collection : List ℕ) (payloads : List (List ℕ)) (file : List ℕ) (at : ℕ) (last : Option ℕ) : Type 0 where
   pub written : IsFile collection payloads file
   pub at_is : at ≡ end_from first_at payloads
   pub last_is : link_of_last last ≡ last_from first_at (negsuc 0) payloads

@@ -38,16 +38,16 @@ DumpsFile file FilesRefused text = (at : ℕ) × (what : What) × IsFinding file
 DumpsFile file _ text = ⊥
 
 -- The status and the text of a dump of these files: there is none, or one that isn't the data file, or the data file alone.
-abbrev pub Dumps : Image → Status → List ℕ → Type 0
-Dumps image state text =
+abbrev pub IsADump : Image → Status → List ℕ → Type 0
+IsADump image state text =
     ((keys image ≡ []) × (state ≡ Done) × (text ≡ []))
     ⊎ (((name : List ℕ) × IsStray name (keys image) × (state ≡ FilesRefused) × (text ≡ present_text name))
     ⊎ ((file : List ℕ) × IsAlone file image × DumpsFile file state text))
 
 -- These are the status and the text of a dump of these files, and no others are.
 pub record IsTheDump (image : Image) (state : Status) (text : List ℕ) : Type 0 where
-  pub is : Dumps image state text
-  pub only : (other : Status) (said : List ℕ) → Dumps image other said → (other ≡ state) × (said ≡ text)
+  pub is : IsADump image state text
+  pub only : (other : Status) (said : List ℕ) → IsADump image other said → (other ≡ state) × (said ≡ text)
 
 -- what is said, and the status that goes with it
 abbrev pub said_text : Said → List ℕ

@@ -7,22 +7,21 @@ use Rattle.mm_main.specs.declared.status.Status.{Status}
 use Rattle.mm_main.specs.declared.status.Status.TheVariants as status
 use Rattle.mm_main.specs.declared.play.End.{End}
 use Rattle.mm_main.specs.declared.play.End.TheVariants.{Refused, Present, Played, SourceFailed, DiskFailed, NoMemory}
-use Rattle.mm_main.specs.declared.text.TheConstants.{DISK_FAULT, SOURCE_FAULT, NO_MEMORY}
 use Rattle.mm_main.specs.Answers.{reply_lines}
 use Rattle.mm_main.specs.FirstFile.{IsFirstFile}
 use Rattle.mm_main.specs.Room.{replies_of}
 use Rattle.mm_main.specs.Script.{IsScript, IsFirstOther, most_bytes}
-use Rattle.mm_main.specs.Stored.{Stores, Began}
-use Rattle.mm_main.specs.Texts.{refusal_text, present_text}
+use Rattle.mm_main.specs.Stored.{Stores, MayHaveBegun}
+use Rattle.mm_main.specs.Texts.{disk_fault_text, source_fault_text, no_memory_text, refusal_text, present_text}
 
 -- what it says
 abbrev pub end_text : End → List ℕ
 end_text (Refused line text) = string_bytes text
 end_text (Present name text) = string_bytes text
 end_text (Played text) = string_bytes text
-end_text SourceFailed = SOURCE_FAULT.now
-end_text DiskFailed = DISK_FAULT.now
-end_text NoMemory = NO_MEMORY.now
+end_text SourceFailed = source_fault_text
+end_text DiskFailed = disk_fault_text
+end_text NoMemory = no_memory_text
 
 abbrev pub end_status : End → Status
 end_status (Refused line text) = status.ScriptRefused
@@ -41,21 +40,30 @@ abbrev pub IsAnyScript : List ℕ → Type 0
 IsAnyScript bytes = (collection : List ℕ) × (docs : List Elements) × IsScript collection docs bytes
 
 -- what playing a script comes to
-abbrev pub Plays : List ℕ → List Elements → Option Told → Option Told → End → Type 0
-Plays collection docs old new (Played text) = (string_bytes text ≡ reply_lines 1 (replies_of docs)) × IfTold old (λ t. keys (image_of t) ≡ []) × Stores collection docs old new
-Plays collection docs old new (Present name text) = (string_bytes text ≡ present_text (string_bytes name)) × (new ≡ old) × IfTold old (λ t. IsFirstFile (Some (string_bytes name)) (keys (image_of t)))
-Plays collection docs old new DiskFailed = Began old new
-Plays collection docs old new NoMemory = Began old new
-Plays collection docs old new _ = ⊥
+abbrev pub ScriptEnds : List ℕ → List Elements → Option Told → Option Told → End → Type 0
+ScriptEnds collection docs old new (Played text) = (string_bytes text ≡ reply_lines 1 (replies_of docs)) × IfTold old (λ t. keys (image_of t) ≡ []) × Stores collection docs old new
+ScriptEnds collection docs old new (Present name text) = (string_bytes text ≡ present_text (string_bytes name)) × (new ≡ old) × IfTold old (λ t. IsFirstFile (Some (string_bytes name)) (keys (image_of t)))
+ScriptEnds collection docs old new DiskFailed = MayHaveBegun old new
+ScriptEnds collection docs old new NoMemory = MayHaveBegun old new
+ScriptEnds collection docs old new _ = ⊥
 
 -- what `play` comes to, by what was to come and by what the disk told before and after it
 abbrev pub PlayEnds : Option (List ℕ) → Option Told → Option Told → End → Type 0
 PlayEnds coming old new SourceFailed = new ≡ old
 PlayEnds coming old new (Refused line text) = (string_bytes text ≡ refusal_text line) × (new ≡ old) × IfComing coming (IsFirstOther line)
-PlayEnds coming old new (Present name text) = (collection : List ℕ) × (docs : List Elements) × IfComing coming (IsScript collection docs) × Plays collection docs old new (Present name text)
-PlayEnds coming old new (Played text) = (collection : List ℕ) × (docs : List Elements) × IfComing coming (IsScript collection docs) × Plays collection docs old new (Played text)
-PlayEnds coming old new DiskFailed = (collection : List ℕ) × (docs : List Elements) × IfComing coming (IsScript collection docs) × Began old new
-PlayEnds coming old new NoMemory = Began old new
+PlayEnds coming old new (Present name text) = (collection : List ℕ) × (docs : List Elements) × IfComing coming (IsScript collection docs) × ScriptEnds collection docs old new (Present name text)
+PlayEnds coming old new (Played text) = (collection : List ℕ) × (docs : List Elements) × IfComing coming (IsScript collection docs) × ScriptEnds collection docs old new (Played text)
+PlayEnds coming old new DiskFailed = (collection : List ℕ) × (docs : List Elements) × IfComing coming (IsScript collection docs) × MayHaveBegun old new
+PlayEnds coming old new NoMemory = MayHaveBegun old new
+
+-- Where no script was read, the disk is the very one that it was: it has had no call.
+abbrev pub IsUnasked : {D : Type 0} → End → D → D → Type 0
+IsUnasked (Refused line text) old new = new ≡ old
+IsUnasked SourceFailed old new = new ≡ old
+IsUnasked (Present name text) old new = Unit {0}
+IsUnasked (Played text) old new = Unit {0}
+IsUnasked DiskFailed old new = Unit {0}
+IsUnasked NoMemory old new = Unit {0}
 
 -- the line is refused, or memory ran out
 abbrev pub IsRefusal : ℕ → End → Type 0

@@ -30,7 +30,7 @@ pub record Stores (collection : List ℕ) (docs : List Elements) (old new : Opti
   pub live : HasLive file (map spelling (stored docs))
   pub made : Makes (new_file_asks file_name file) old new
 
--- The calls that store a file were begun, and came as far as to any of them. Before the first, the disk is as it was.
-pub record Began (old new : Option Told) : Type 0 where
+-- Of the calls that store a file, those up to any of them were made, the last perhaps not to its end; or none was, and the disk is as it was.
+pub record MayHaveBegun (old new : Option Told) : Type 0 where
   pub file : List ℕ
   pub some : MakesSome (new_file_asks file_name file) old new

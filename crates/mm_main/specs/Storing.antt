@@ -3,12 +3,12 @@ use Rattle.std.specs.Prelude.{◌≡◌, ℕ, ◌-◌, ◌<◌, ◌≤◌, List,
 use Rattle.mm_main.specs.declared.answers.Reply.{Reply}
 use Rattle.mm_main.specs.declared.answers.Reply.TheVariants.{Done, NoSpace}
 use Rattle.mm_main.specs.declared.store.Store.{Store}
-use Rattle.mm_main.specs.Drafted.{private_file, end_from, Stands}
+use Rattle.mm_main.specs.Drafted.{private_file, end_from, HoldsUpTo}
 use Rattle.mm_main.specs.Room.{file_len, first_at, request}
 
 -- the private image has the data file with these payloads, and no part is closed
 pub record IsStore (collection : List ℕ) (payloads : List (List ℕ)) (store : Store) : Type 0 where
-  pub stands : Stands collection payloads (private_file store.views) store.chain.end store.chain.last
+  pub stands : HoldsUpTo collection payloads (private_file store.views) store.chain.end store.chain.last
   pub none_closed : store.views.closed ≡ []
 
 -- a payload is answered: it had room behind these and is stored, or it had none and nothing changed

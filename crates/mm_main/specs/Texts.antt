@@ -1,8 +1,22 @@
--- The texts of a run that isn't begun, and of a data file with a finding.
+-- The texts of a run that isn't begun, of one that failed, and of a data file with a finding.
 use Rattle.std.specs.Prelude.{ℕ, List, ◌++◌, codes}
 use Rattle.std.specs.Fmt.{decimal}
 use Rattle.mm_main.specs.declared.finding.What.{What}
 use Rattle.mm_main.specs.declared.finding.What.TheVariants.{File, Extent, Chain, Tiling, Document}
+
+-- the words give no command; opaque, since it is long
+unfoldable pub usage_text : List ℕ
+usage_text = codes "usage: mmap play or run or recover or dump or check or gen FOLDER [--db LIST] [--nsmb N] [--jkb N] [--commit N] [--flush N] [--stamp N] [--seed N] [--count N]\n"
+
+-- the disk failed, the source failed, memory ran out
+abbrev pub disk_fault_text : List ℕ
+disk_fault_text = codes "disk fault\n"
+
+abbrev pub source_fault_text : List ℕ
+source_fault_text = codes "source fault\n"
+
+abbrev pub no_memory_text : List ℕ
+no_memory_text = codes "no memory\n"
 
 -- a script's line is the first of another form
 abbrev pub refusal_text : ℕ → List ℕ

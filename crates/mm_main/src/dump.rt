@@ -1,17 +1,16 @@
 // The command `dump`: the data file is read back, and its documents, or what is first wrong in it, are said.
-ghost use Rattle.std.specs.Prelude.{◌≡◌, ℕ, List, [], ◌∷◌, map, IfOk, IsErrOf, string_bytes};
+ghost use Rattle.std.specs.Prelude.{◌≡◌, map, IfOk, IsErrOf, string_bytes};
 ghost use Rattle.std.specs.Option.{option_map};
 ghost use Rattle.mm_outside.specs.declared.disk.Device.TheVariants.{Fault};
 ghost use Rattle.mm_outside.specs.Fault.{HasCause, Rose};
 ghost use Rattle.mm_outside.specs.Image.{bytes_at};
 ghost use Rattle.mm_outside.specs.Told.{IfTold, image_of};
 ghost use Rattle.mm_main.specs.Contents.{Shows};
-ghost use Rattle.mm_main.specs.Dumps.{Dumps, IsTheDump, DumpsFile, IsFirstStray, said_status, said_text};
+ghost use Rattle.mm_main.specs.Dumps.{IsADump, DumpsFile, IsFirstStray, said_status, said_text};
 ghost use Rattle.mm_main.specs.Findings.{IsFinding, IfFound};
 ghost use Rattle.mm_main.specs.Stored.{file_name};
-ghost use Rattle.mm_main.specs.Streams.{Says};
 ghost use Rattle.mm_main.specs.Texts.{present_text};
-ghost use Rattle.mm_main.specs.Top.{IsAmong, OnlyAdds};
+ghost use Rattle.mm_main.specs.Top.{Dumps, OnlyAdds};
 
 use crate::answers::FILE_LEN;
 use crate::disk::{FILE_NAME, names_of, read_first};
@@ -19,7 +18,7 @@ use crate::finding::Unreadable;
 use crate::output::say;
 use crate::reading::read_file;
 use crate::status::Status;
-use crate::text::{DISK_FAULT, NO_MEMORY, docs_text, finding, presence};
+use crate::text::{disk_fault, docs_text, finding, no_memory, presence};
 use mm_base::NoMemory;
 use mm_outside::{Device, Disk, Sink};
 use std::alloc::Global;
@@ -125,7 +124,7 @@ fn say_stray(alloc: Global, name: &str) -> Result<Said, Device>
 
 // What is said of the disk's files.
 fn say_files<D: Disk>(alloc: Global, disk: &mut D) -> Result<Said, Device>
-    ensures dumps { IfOk result (λ said. IfTold (D.told disk.old) (λ t. Dumps (image_of t) (said_status said) (said_text said))) }
+    ensures dumps { IfOk result (λ said. IfTold (D.told disk.old) (λ t. IsADump (image_of t) (said_status said) (said_text said))) }
     ensures told { D.told disk.new ≡ D.told disk.old }
     ensures moment { D.moment disk.new ≡ D.moment disk.old }
     ensures cause { HasCause Fault (D.faults disk.old) (D.faults disk.new) result }
@@ -143,19 +142,16 @@ fn say_files<D: Disk>(alloc: Global, disk: &mut D) -> Result<Said, Device>
 
 /// Says what the disk's data file holds, or what is first wrong with the disk's files. It asks the disk for no change.
 pub fn dump_main<D: Disk, K: Sink>(alloc: Global, sink: &mut K, disk: &mut D) -> Status
-    ensures dumps { IsAmong result (Status.Done ∷ Status.FilesRefused ∷ []) → IfTold (D.told disk.old)
-        (λ t. (text : List ℕ) × IsTheDump (image_of t) result text × Says text (K.taken sink.old) (K.taken sink.new)) }
-    ensures among { IsAmong result (Status.Done ∷ Status.DiskFault ∷ Status.SinkFault ∷ Status.NoMemory ∷ Status.FilesRefused ∷ []) }
-    ensures disk_fault { result ≡ Status.DiskFault → Rose (D.faults disk.old) (D.faults disk.new) × Says DISK_FAULT.now (K.taken sink.old) (K.taken sink.new) }
+    ensures dumps { Dumps result (D.told disk.old) (K.taken sink.old) (K.taken sink.new) }
+    ensures disk_fault { result ≡ Status.DiskFault → Rose (D.faults disk.old) (D.faults disk.new) }
     ensures sink_fault { result ≡ Status.SinkFault → Rose (K.faults sink.old) (K.faults sink.new) }
-    ensures no_memory { result ≡ Status.NoMemory → Says NO_MEMORY.now (K.taken sink.old) (K.taken sink.new) }
     ensures told { D.told disk.new ≡ D.told disk.old }
     ensures moment { D.moment disk.new ≡ D.moment disk.old }
     ensures adds { OnlyAdds (K.taken sink.old) (K.taken sink.new) }
 {
     match say_files(alloc, disk) {
         Ok(said) => say(sink, said.text(), said.status()),
-        Err(Device::Fault) => say(sink, DISK_FAULT.as_bytes(), Status::DiskFault),
-        Err(Device::NoMemory) => say(sink, NO_MEMORY.as_bytes(), Status::NoMemory),
+        Err(Device::Fault) => say(sink, disk_fault().as_bytes(), Status::DiskFault),
+        Err(Device::NoMemory) => say(sink, no_memory().as_bytes(), Status::NoMemory),
     }
 }

@@ -7,7 +7,7 @@ ghost use Rattle.mm_frames.specs.RecHeader.{rec_header_of, rec_header_table};
 ghost use Rattle.mm_main.specs.Room.{file_len, extent_at, first_at, request, block_len};
 ghost use Rattle.mm_main.specs.DataFile.{at_file_0, linked, HasFileHeader, HasExtentHeader, IsRecord, IsRest, namespace_of};
 ghost use Rattle.mm_ranges.specs.Places.{Covers};
-ghost use Rattle.mm_main.specs.Drafted.{drafted, Keeps, IsLaid, Stands, LeadsOn, SameBetween};
+ghost use Rattle.mm_main.specs.Drafted.{drafted, Keeps, IsLaid, HoldsUpTo, LeadsOn, SameBetween};
 ghost use Rattle.mm_main.specs.Written.{SameBefore, SameBehind};
 
 use crate::answers::{EXTENT_AT, FILE_LEN, FIRST_AT, block_len};
@@ -260,7 +260,7 @@ fn insert_first(draft: &mut Draft, collection: &[u8], payload: &[u8]) -> Result<
     requires name { length collection.now ≤ 60 }
     requires payload { length payload.now < 2 ^ 63 }
     requires room { request (length payload.now) ≤ file_len - first_at }
-    ensures stands { IfOk result (λ chain. Stands collection.now (payload.now ∷ []) (drafted draft.new) chain.end chain.last) }
+    ensures stands { IfOk result (λ chain. HoldsUpTo collection.now (payload.now ∷ []) (drafted draft.new) chain.end chain.last) }
     ensures keeps { Keeps draft.old draft.new }
 {
     put_header(draft, FILE_LEN)?;
@@ -283,8 +283,8 @@ fn insert_next(
     requires last { first_at ≤ last }
     requires apart { last + 16 ≤ at }
     requires inside { at ≤ file_len }
-    ensures stands { (payloads : List (List ℕ)) → Stands collection.now payloads (drafted draft.old) at (Some last)
-        → IfOk result (λ chain. Stands collection.now (payloads ++ payload.now ∷ []) (drafted draft.new) chain.end chain.last) }
+    ensures stands { (payloads : List (List ℕ)) → HoldsUpTo collection.now payloads (drafted draft.old) at (Some last)
+        → IfOk result (λ chain. HoldsUpTo collection.now (payloads ++ payload.now ∷ []) (drafted draft.new) chain.end chain.last) }
     ensures keeps { Keeps draft.old draft.new }
 {
     put_next(draft, last, at)?;
@@ -302,9 +302,9 @@ pub fn insert(
     requires name { length collection.now ≤ 60 }
     requires payload { length payload.now < 2 ^ 63 }
     requires room { request (length payload.now) ≤ file_len - chain.end }
-    requires stands { (payloads : List (List ℕ)) × Stands collection.now payloads (drafted draft.old) chain.end chain.last }
-    ensures stands { (payloads : List (List ℕ)) → Stands collection.now payloads (drafted draft.old) chain.end chain.last
-        → IfOk result (λ next. Stands collection.now (payloads ++ payload.now ∷ []) (drafted draft.new) next.end next.last) }
+    requires stands { (payloads : List (List ℕ)) × HoldsUpTo collection.now payloads (drafted draft.old) chain.end chain.last }
+    ensures stands { (payloads : List (List ℕ)) → HoldsUpTo collection.now payloads (drafted draft.old) chain.end chain.last
+        → IfOk result (λ next. HoldsUpTo collection.now (payloads ++ payload.now ∷ []) (drafted draft.new) next.end next.last) }
     ensures keeps { Keeps draft.old draft.new }
 {
     match chain.last {

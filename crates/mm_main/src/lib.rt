@@ -1,11 +1,11 @@
 //! The top call of the store's program, `tool_main`, over any disk, source and sink.
 //!
-//! Promised, as clauses of that call. `play`: at status 0 the disk has the one file `test.0`, whose live records are the documents
-//! answered `ok 1`, a dump of it has just these documents, and the replies of exactly that script are printed; statuses 3 and 8
-//! come exactly by the first line of another form and by the first file that is there; with no fault counted and a script on an
-//! empty disk the status is 0 or 7. `dump`: the status and the text are the one dump of the disk's files, and nothing is asked to
-//! change. Status 2 comes exactly by the words; 4, 5 and 6 only where the disk, the source or the sink counted a fault in this
-//! call. A refusal leaves the disk as it was.
+//! Promised, as clauses of that call. `play` (`Plays` in `specs/Top.antt`): at status 0 the disk has the one file `test.0`, whose live
+//! records are the documents answered `ok 1`, a dump of it has just these documents, and the replies of exactly that script are printed;
+//! statuses 3 and 8 come exactly by the first line of another form and by the first file that is there; with no fault counted and a
+//! script on an empty disk the status is 0 or 7. `dump` (`Dumps`): the status and the text are the one dump of the disk's files, and
+//! nothing is asked to change. Status 2 comes exactly by the words; 4, 5 and 6 only where the disk, the source or the sink counted a
+//! fault in this call. A refusal leaves the disk as it was; that of words or of a script comes before the disk has had a call.
 //!
 //! Not promised: how long it takes, and anything of an outside that tells nothing, as a real folder.
 //!

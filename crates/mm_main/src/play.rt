@@ -1,21 +1,15 @@
 // The command `play`: a script is read, its documents are stored, its lines are answered.
-ghost use Rattle.std.specs.Prelude.{◌≡◌, ℕ, ◌+◌, ◌≤◌, List, [], ◌∷◌, length, map, take, Option, Some, IfOk, OnOk, string_bytes};
-ghost use Rattle.std.specs.FinMap.{keys};
+ghost use Rattle.std.specs.Prelude.{◌≡◌, ◌≤◌, [], ◌∷◌, length, map, IfOk, OnOk, string_bytes};
 ghost use Rattle.mm_outside.specs.declared.disk.Device.TheVariants.{Fault};
 ghost use Rattle.mm_outside.specs.Fault.{HasCause, Rose};
-ghost use Rattle.mm_outside.specs.Told.{Told, IfTold, image_of};
-ghost use Rattle.mm_main.specs.Answers.{reply_lines};
-ghost use Rattle.mm_main.specs.Room.{replies_of, stored};
-ghost use Rattle.mm_main.specs.Ends.{IfComing, IsAnyScript, Plays, PlayEnds, IsRefusal, end_text, end_status};
-ghost use Rattle.mm_main.specs.FirstFile.{IsFirstFile};
-ghost use Rattle.mm_main.specs.Script.{IsFirstOther, most_bytes};
-ghost use Rattle.mm_main.specs.Streams.{Says};
-ghost use Rattle.mm_main.specs.Texts.{refusal_text, present_text};
-ghost use Rattle.mm_main.specs.Top.{IsAmong, HasPlayed, OnlyAdds};
-ghost use Rattle.mm_main.specs.Stored.{Stores, Began};
 ghost use Rattle.mm_bson.specs.Spelling.{spelling};
+ghost use Rattle.mm_main.specs.Answers.{reply_lines};
 ghost use Rattle.mm_main.specs.Contents.{AreDocsOf, HoldsDocs};
+ghost use Rattle.mm_main.specs.Ends.{ScriptEnds, PlayEnds, IsRefusal, IsUnasked, end_text, end_status};
 ghost use Rattle.mm_main.specs.Live.{HasLive};
+ghost use Rattle.mm_main.specs.Room.{replies_of, stored};
+ghost use Rattle.mm_main.specs.Stored.{Stores, MayHaveBegun};
+ghost use Rattle.mm_main.specs.Top.{IsAmong, Plays, OnlyAdds};
 
 use crate::disk::{FILE_NAME, first_file, write_file};
 use crate::input::{InputFault, read_all};
@@ -23,7 +17,7 @@ use crate::output::print;
 use crate::script::{Script, ScriptFault, read_script};
 use crate::status::Status;
 use crate::store::file_docs;
-use crate::text::{DISK_FAULT, NO_MEMORY, SOURCE_FAULT, presence, refusal, replies_text};
+use crate::text::{disk_fault, no_memory, presence, refusal, replies_text, source_fault};
 use mm_base::NoMemory;
 use mm_outside::{Device, Disk, Sink, SinkFault, Source};
 use std::alloc::Global;
@@ -48,9 +42,9 @@ impl End {
             End::Refused { line: _, text } => text.as_str(),
             End::Present { name: _, text } => text.as_str(),
             End::Played { text } => text.as_str(),
-            End::SourceFailed => SOURCE_FAULT,
-            End::DiskFailed => DISK_FAULT,
-            End::NoMemory => NO_MEMORY,
+            End::SourceFailed => source_fault(),
+            End::DiskFailed => disk_fault(),
+            End::NoMemory => no_memory(),
         }
     }
 
@@ -98,7 +92,7 @@ fn store<D: Disk>(alloc: Global, script: &Script<'_>, disk: &mut D) -> Result<St
     requires docs { AreDocsOf script.now.collection.now script.now.docs.items }
     ensures text { IfOk result (λ text. string_bytes text ≡ reply_lines 1 (replies_of script.now.docs.items)) }
     ensures stores { OnOk result (Stores script.now.collection.now script.now.docs.items (D.told disk.old) (D.told disk.new)) }
-    ensures began { Began (D.told disk.old) (D.told disk.new) }
+    ensures began { MayHaveBegun (D.told disk.old) (D.told disk.new) }
     ensures cause { HasCause Fault (D.faults disk.old) (D.faults disk.new) result }
 {
     let done = match prepare(alloc, script) {
@@ -113,7 +107,7 @@ fn store<D: Disk>(alloc: Global, script: &Script<'_>, disk: &mut D) -> Result<St
 fn play<D: Disk>(alloc: Global, script: &Script<'_>, disk: &mut D) -> End
     requires short { length script.now.collection.now ≤ 60 }
     requires docs { AreDocsOf script.now.collection.now script.now.docs.items }
-    ensures plays { Plays script.now.collection.now script.now.docs.items (D.told disk.old) (D.told disk.new) result }
+    ensures ends { ScriptEnds script.now.collection.now script.now.docs.items (D.told disk.old) (D.told disk.new) result }
     ensures later { D.faults disk.old ≤ D.faults disk.new }
     ensures cause { result ≡ End.DiskFailed → Rose (D.faults disk.old) (D.faults disk.new) }
 {
@@ -145,9 +139,10 @@ fn refused(alloc: Global, line: u64) -> End
     }
 }
 
-// Reads a script and plays it, but for the printing.
+// Reads a script and plays it, but for the printing. What reads a script, and what refuses it, takes no disk.
 fn play_script<D: Disk, S: Source>(alloc: Global, source: &mut S, disk: &mut D) -> End
     ensures ends { PlayEnds (S.coming source.old) (D.told disk.old) (D.told disk.new) result }
+    ensures unasked { IsUnasked result disk.old disk.new }
     ensures disk_later { D.faults disk.old ≤ D.faults disk.new }
     ensures disk_cause { result ≡ End.DiskFailed → Rose (D.faults disk.old) (D.faults disk.new) }
     ensures source_later { S.faults source.old ≤ S.faults source.new }
@@ -172,25 +167,11 @@ pub fn play_main<D: Disk, S: Source, K: Sink>(
     sink: &mut K,
     disk: &mut D,
 ) -> Status
-    ensures played { result ≡ Status.Done → HasPlayed (S.coming source.old) (D.told disk.old) (D.told disk.new) (K.taken sink.old) (K.taken sink.new) }
-    ensures among { IsAmong result (Status.Done ∷ Status.ScriptRefused ∷ Status.DiskFault ∷ Status.SourceFault ∷ Status.SinkFault ∷ Status.NoMemory ∷ Status.FilesRefused ∷ []) }
-    ensures refused { result ≡ Status.ScriptRefused → (line : ℕ) × IfComing (S.coming source.old) (IsFirstOther line) × Says (refusal_text line) (K.taken sink.old) (K.taken sink.new) }
-    ensures refused_exactly { (bytes : List ℕ) (line : ℕ) → S.coming source.old ≡ Some bytes → IsFirstOther line (take (most_bytes + 1) bytes)
-        → IsAmong result (Status.ScriptRefused ∷ Status.SourceFault ∷ Status.SinkFault ∷ Status.NoMemory ∷ []) }
-    ensures present { result ≡ Status.FilesRefused → IfComing (S.coming source.old) IsAnyScript
-        × (name : List ℕ) × IfTold (D.told disk.old) (λ t. IsFirstFile (Some name) (keys (image_of t))) × Says (present_text name) (K.taken sink.old) (K.taken sink.new) }
-    ensures present_exactly { (bytes : List ℕ) (t : Told) (name : List ℕ) → S.coming source.old ≡ Some bytes → IsAnyScript (take (most_bytes + 1) bytes)
-        → D.told disk.old ≡ Some t → IsFirstFile (Some name) (keys (image_of t))
-        → IsAmong result (Status.FilesRefused ∷ Status.DiskFault ∷ Status.SourceFault ∷ Status.SinkFault ∷ Status.NoMemory ∷ []) }
-    ensures complete { (bytes : List ℕ) (t : Told) → S.coming source.old ≡ Some bytes → IsAnyScript (take (most_bytes + 1) bytes)
-        → D.told disk.old ≡ Some t → keys (image_of t) ≡ []
-        → IsAmong result (Status.Done ∷ Status.DiskFault ∷ Status.SourceFault ∷ Status.SinkFault ∷ Status.NoMemory ∷ []) }
-    ensures disk_fault { result ≡ Status.DiskFault → Rose (D.faults disk.old) (D.faults disk.new) × Says DISK_FAULT.now (K.taken sink.old) (K.taken sink.new) }
-    ensures source_fault { result ≡ Status.SourceFault → Rose (S.faults source.old) (S.faults source.new) × Says SOURCE_FAULT.now (K.taken sink.old) (K.taken sink.new) }
+    ensures plays { Plays result (S.coming source.old) (D.told disk.old) (D.told disk.new) (K.taken sink.old) (K.taken sink.new) }
+    ensures disk_fault { result ≡ Status.DiskFault → Rose (D.faults disk.old) (D.faults disk.new) }
+    ensures source_fault { result ≡ Status.SourceFault → Rose (S.faults source.old) (S.faults source.new) }
     ensures sink_fault { result ≡ Status.SinkFault → Rose (K.faults sink.old) (K.faults sink.new) }
-    ensures no_memory { result ≡ Status.NoMemory → Says NO_MEMORY.now (K.taken sink.old) (K.taken sink.new) }
-    ensures kept { IsAmong result (Status.ScriptRefused ∷ Status.SourceFault ∷ Status.FilesRefused ∷ []) → D.told disk.new ≡ D.told disk.old }
-    ensures began { Began (D.told disk.old) (D.told disk.new) }
+    ensures unasked { IsAmong result (Status.ScriptRefused ∷ Status.SourceFault ∷ []) → disk.new ≡ disk.old }
     ensures adds { OnlyAdds (K.taken sink.old) (K.taken sink.new) }
 {
     let end = play_script(alloc, source, disk);

@@ -3,7 +3,7 @@ ghost use Rattle.std.specs.Prelude.{◌≡◌, ◌++◌, IfOk, OnOk, string_byte
 ghost use Rattle.std.specs.Fmt.{decimal};
 ghost use Rattle.mm_main.specs.Answers.{reply_lines, reply_text};
 ghost use Rattle.mm_main.specs.Contents.{doc_line, doc_lines};
-ghost use Rattle.mm_main.specs.Texts.{refusal_text, present_text, word_of, finding_text};
+ghost use Rattle.mm_main.specs.Texts.{usage_text, disk_fault_text, source_fault_text, no_memory_text, refusal_text, present_text, word_of, finding_text};
 
 use crate::answers::Reply;
 use crate::finding::{Finding, What};
@@ -13,17 +13,33 @@ use std::alloc::{AllocError, Global};
 use std::fmt::Write;
 
 /// What is said where the words give no command.
-pub const USAGE: &str =
-    "usage: mmap play or run or recover or dump or check or gen FOLDER [--db LIST] [--nsmb N] [--jkb N] [--commit N] [--flush N] [--stamp N] [--seed N] [--count N]\n";
+#[tactic(auto, unfolding(crate::specs::Texts::usage_text))]
+pub fn usage() -> &'static str
+    ensures { result.now ≡ usage_text }
+{
+    "usage: mmap play or run or recover or dump or check or gen FOLDER [--db LIST] [--nsmb N] [--jkb N] [--commit N] [--flush N] [--stamp N] [--seed N] [--count N]\n"
+}
 
 /// What is said of a fault of the disk.
-pub const DISK_FAULT: &str = "disk fault\n";
+pub fn disk_fault() -> &'static str
+    ensures { result.now ≡ disk_fault_text }
+{
+    "disk fault\n"
+}
 
 /// What is said of a fault of the source.
-pub const SOURCE_FAULT: &str = "source fault\n";
+pub fn source_fault() -> &'static str
+    ensures { result.now ≡ source_fault_text }
+{
+    "source fault\n"
+}
 
 /// What is said where memory ran out.
-pub const NO_MEMORY: &str = "no memory\n";
+pub fn no_memory() -> &'static str
+    ensures { result.now ≡ no_memory_text }
+{
+    "no memory\n"
+}
 
 // Appends the line of a reply.
 fn push_reply(out: &mut String, number: u64, reply: Reply) -> Result<(), AllocError>

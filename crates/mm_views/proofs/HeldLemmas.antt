@@ -95,7 +95,7 @@ pub ready_held : (shared private : Image) (ms : List Made) (spans : List Range) 
     → p.given ≡ record { name = []; made = ms; pieces = pieces_of (shown spans) private } → p.kept ≡ record { name = []; made = ms; pieces = pieces_of (shown spans) private } → len < capacity
     → IsHeld (state_of shared private ms spans ps (Some p)) (Some p) len capacity
 ready_held shared private ms spans ps before p l c len capacity h given kept room = record {
-  sound = record { pending = h.sound.pending; normal = h.sound.normal; inside = h.sound.inside; made = h.sound.made; fits = h.sound.fits; limits = h.sound.limits };
+  sound = record { differs = h.sound.differs; normal = h.sound.normal; inside = h.sound.inside; made = h.sound.made; fits = h.sound.fits; limits = h.sound.limits };
   tells = (given, kept);
   room = λ _. room;
 }

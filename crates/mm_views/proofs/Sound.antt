@@ -194,7 +194,7 @@ made_there : (s : State) (file : ℕ) → IsSound s → is_made s.made file ≡ 
 made_there s file h made none =
     some_none (zeros_of s.made file)
     (sym (get-with_made s.made (over_all s.closed s.shared) file h.made.rising ∙ ap (λ t. cond t (Some (zeros_of s.made file)) (get (over_all s.closed s.shared) file)) made)
-    ∙ absent_same s.opened (with_made s.made (over_all s.closed s.shared)) s.private file h.pending none)
+    ∙ absent_same s.opened (with_made s.made (over_all s.closed s.shared)) s.private file h.differs none)
   where
     some_none : (b : List ℕ) → Some b ≡ None → ⊥
     some_none b e = cc
@@ -211,7 +211,7 @@ made_absent saved d file h made =
     let s = d.views in
     let base = over_all s.closed s.shared in
     sym (get-with_made s.made base file h.sound.made.rising ∙ ap (λ t. cond t (Some (zeros_of s.made file)) (get base file)) (made_apart saved d h file made))
-    ∙ absent_same s.opened (with_made s.made base) s.private file h.sound.pending (h.made.new_files file made)
+    ∙ absent_same s.opened (with_made s.made base) s.private file h.sound.differs (h.made.new_files file made)
 
 pub sound_adopted : (saved : List Piece) (d : Drafting) → IsDraft saved d → IsSound (adopted d)
 sound_adopted saved d h =
@@ -220,10 +220,10 @@ sound_adopted saved d h =
     let same = draft_same saved d h in
     let apart = made_apart saved d h in
     record {
-      pending = subst (λ (image : Image). SameOutside (merged d.views.opened d.declared) image d.image) (sym (with_made-with_all d.views.made d.made base s.made.rising h.made.rising apart))
+      differs = subst (λ (image : Image). SameOutside (merged d.views.opened d.declared) image d.image) (sym (with_made-with_all d.views.made d.made base s.made.rising h.made.rising apart))
           (same_outside_trans d.views.opened d.declared (merged d.views.opened d.declared) (with_made d.made (with_made d.views.made base)) (with_made d.made d.views.private) d.image
           (λ f i out. let both = or_parts (is_covered d.declared f i) (is_covered d.views.opened f i) (sym (covered-merged d.views.opened d.declared f i (spaced_of_normal d.views.opened s.normal) (spaced_of_normal d.declared h.normal)) ∙ out) in (both.1, both.0))
-          (same_made d.views.opened d.made (with_made d.views.made base) d.views.private s.pending) same);
+          (same_made d.views.opened d.made (with_made d.views.made base) d.views.private s.differs) same);
       normal = is_normal-merged d.views.opened d.declared s.normal h.normal;
       inside = inside_merged d.image d.views.opened d.declared s.normal h.normal
           (are_inside_same d.image (with_made d.made d.views.private) d.views.opened (λ q. sym (same_lengths d.declared (with_made d.made d.views.private) d.image same q)) (are_inside-made d.views.private d.made d.views.opened h.made.rising h.made.new_files s.inside)) h.inside;
@@ -254,7 +254,7 @@ part_fits s h = record {
   rising = h.made.rising;
   allowed = h.made.allowed;
   new_files = h.made.new_files;
-  inside = pieces_inside_same (with_made s.made (over_all s.closed s.shared)) s.private (pieces_of s.opened s.private) (same_lengths s.opened (with_made s.made (over_all s.closed s.shared)) s.private h.pending)
+  inside = pieces_inside_same (with_made s.made (over_all s.closed s.shared)) s.private (pieces_of s.opened s.private) (same_lengths s.opened (with_made s.made (over_all s.closed s.shared)) s.private h.differs)
       (pieces_inside-pieces_of s.opened s.private h.inside);
 }
 
@@ -269,11 +269,11 @@ part_allowed s h =
     }
 
 pub whole_closed : (s : State) → IsSound s → over_all (s.closed ++ part_of s ∷ []) s.shared ≡ s.private
-whole_closed s h = over_all-push s.closed (part_of s) s.shared ∙ laid_whole s.opened (with_made s.made (over_all s.closed s.shared)) s.private h.inside h.pending
+whole_closed s h = over_all-push s.closed (part_of s) s.shared ∙ laid_whole s.opened (with_made s.made (over_all s.closed s.shared)) s.private h.inside h.differs
 
 pub sound_closed : (s : State) → IsSound s → IsSound (closed_from s)
 sound_closed s h = record {
-  pending = subst (λ (image : Image). SameOutside [] image s.private) (sym (whole_closed s h)) (same_outside_refl [] s.private);
+  differs = subst (λ (image : Image). SameOutside [] image s.private) (sym (whole_closed s h)) (same_outside_refl [] s.private);
   normal = refl;
   inside = tt;
   made = record { rising = refl; allowed = refl; new_files = λ file made. absurd (false≢true made) };
@@ -288,7 +288,7 @@ sound_applied_with s [] e h = h
 sound_applied_with s (p ∷ ps) e h =
     let fits : PartsFit s.shared (p ∷ ps) = subst (PartsFit s.shared) e h.fits in
     record {
-      pending = subst (λ (xs : List Part). SameOutside s.opened (with_made s.made (over_all xs s.shared)) s.private) e h.pending;
+      differs = subst (λ (xs : List Part). SameOutside s.opened (with_made s.made (over_all xs s.shared)) s.private) e h.differs;
       normal = h.normal;
       inside = h.inside;
       made = subst (λ (xs : List Part). AreMade (over_all xs s.shared) s.made) e h.made;
@@ -344,7 +344,7 @@ covered_sound s h file out =
     file_same_trans (is_covered (ranges_in s.closed) file) (is_covered s.opened file) (is_covered (s.opened ++ ranges_in s.closed) file) (get s.shared file) (get base file) (get s.private file)
     (λ i no. let both = or_parts (is_covered s.opened file i) (is_covered (ranges_in s.closed) file i) (sym (is_covered-append s.opened (ranges_in s.closed) file i) ∙ no) in (both.1, both.0))
     (parts_outside s.closed s.shared file h.fits outs.1)
-    (subst (λ (o : Option (List ℕ)). FileSame (is_covered s.opened file) o (get s.private file)) (get_not_made s.made base file h.made.rising outs.0) (h.pending file))
+    (subst (λ (o : Option (List ℕ)). FileSame (is_covered s.opened file) o (get s.private file)) (get_not_made s.made base file h.made.rising outs.0) (h.differs file))
 
 -- ---- the shared image's files
 
@@ -384,12 +384,12 @@ images_equal s h made opened closed =
     same_outside_none s.shared s.private
     (subst (λ (rs : List Range). SameOutside rs s.shared s.private) opened
     (subst (λ (ms : List Made). SameOutside s.opened (with_made ms s.shared) s.private) made
-    (subst (λ (ps : List Part). SameOutside s.opened (with_made s.made (over_all ps s.shared)) s.private) closed h.pending)))
+    (subst (λ (ps : List Part). SameOutside s.opened (with_made s.made (over_all ps s.shared)) s.private) closed h.differs)))
 
 -- two images that are one are sound, with nothing between them
 pub sound_equal : (a b : Image) (is_ready : Bool) → a ≡ b → KeepsLimits b → IsSound (record { shared = a; private = b; made = []; opened = []; closed = []; is_ready = is_ready })
 sound_equal a b is_ready e h = record {
-  pending = subst (λ (image : Image). SameOutside [] image b) (sym e) (same_outside_refl [] b);
+  differs = subst (λ (image : Image). SameOutside [] image b) (sym e) (same_outside_refl [] b);
   normal = refl;
   inside = tt;
   made = record { rising = refl; allowed = refl; new_files = λ file made. absurd (false≢true made) };

@@ -1,12 +1,12 @@
 -- The files in memory, as an image. A data file stands in the slot of its number, the name file in the one behind them.
 use Rattle.std.specs.Prelude.{ℕ, suc, ◌+◌, ◌-◌, List, [], ◌∷◌, Option, Some, None, if◌then◌else◌, nat_lt}
 use Rattle.std.specs.FinMap.{insert, empty}
-use Rattle.mm_ranges.specs.declared.limits.TheConstants.{NS_FILE}
+use Rattle.mm_ranges.specs.Limits.{ns_file}
 use Rattle.mm_ranges.specs.Overlay.{Image}
 
 -- the number of the file in a slot
 abbrev pub number_of : ℕ → ℕ
-number_of slot = if nat_lt slot 8 then slot else NS_FILE + (slot - 8)
+number_of slot = if nat_lt slot 8 then slot else ns_file + (slot - 8)
 
 -- the slot of a file
 abbrev pub slot_of : ℕ → ℕ

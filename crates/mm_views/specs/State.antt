@@ -86,8 +86,8 @@ abbrev pub IsCovered : State → Type 0
 IsCovered s = (file : ℕ) → is_made (s.made ++ made_in s.closed) file ≡ false → FileSame (is_covered (s.opened ++ ranges_in s.closed) file) (get s.shared file) (get s.private file)
 
 -- What is closed and then made, laid over the shared image, gives the private one but at the opened intents.
-abbrev pub IsPending : State → Type 0
-IsPending s = SameOutside s.opened (with_made s.made (over_all s.closed s.shared)) s.private
+abbrev pub DiffersAtOpened : State → Type 0
+DiffersAtOpened s = SameOutside s.opened (with_made s.made (over_all s.closed s.shared)) s.private
 
 -- each piece has a byte, and lies inside its file
 abbrev pub PiecesInside : Image → List Piece → Type 0
@@ -122,7 +122,7 @@ pub record AreMade (image : Image) (made : List Made) : Type 0 where
 
 -- what holds of views at all times
 pub record IsSound (s : State) : Type 0 where
-  pub pending : IsPending s
+  pub differs : DiffersAtOpened s
   pub normal : is_normal s.opened ≡ true
   pub inside : AreInside s.private s.opened
   pub made : AreMade (over_all s.closed s.shared) s.made
