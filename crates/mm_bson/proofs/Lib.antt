@@ -12,3 +12,4 @@ pub mod Paths
 pub mod Building
 pub mod Copies
 pub mod Places
+pub mod Shown

@@ -5,7 +5,7 @@ ghost use Rattle.std.specs.Fmt.{decimal};
 ghost use Rattle.mm_bson.specs.Tree.{Elements, tree_depth, depth, values_depth, no_elements, element, append, no_values, item, append_values, count};
 ghost use Rattle.mm_bson.specs.Spelling.{IsDocument, spelling, array_spelling, element_len, HasNoZero};
 ghost use Rattle.mm_bson.specs.Reading.{Gives, whole};
-ghost use Rattle.mm_bson.specs.Faults.{IsExplained};
+ghost use Rattle.mm_bson.specs.Faults.{IsExplained, IsShown};
 ghost use Rattle.mm_bson.specs.Built.{IsBuilt, IsBuiltArray, HoldsDocument, HoldsArray};
 
 use crate::fault::BsonFault;
@@ -140,6 +140,8 @@ impl Doc {
         ensures only { (d : Elements) → IsDocument d → bytes.now ≡ spelling d → Gives (λ x. x) result (Ok d) }
         // Each fault lies in the bytes, and `TooLong` comes of the length alone.
         ensures explained { IfErr result (IsExplained bytes.now) }
+        // What stands where the fault is.
+        ensures shown { IfErr result (IsShown bytes.now) }
         // Which fault it is.
         ensures exact { Gives (λ x. x) result (whole bytes.now) }
     {

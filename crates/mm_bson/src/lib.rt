@@ -15,7 +15,8 @@
 //!   `is_document` and `check` judge bytes as `Doc::parse` does.
 //!
 //! Not promised: that memory suffices. In specs/, Spelling is the grammar,
-//! Reading the first fault, Order the order and Path what a path leads to.
+//! Reading the first fault, Faults what stands where it is, Order the order and
+//! Path what a path leads to.
 #![tactic(auto)]
 
 mod checking;

@@ -4,11 +4,11 @@
 //! found in them by the place behind it.
 
 ghost use Rattle.std.specs.Prelude.{◌≡◌, ◌≤◌, ◌+◌, length, IfOk};
-ghost use Rattle.mm_bson.specs.Tree.{depth, values_depth};
+ghost use Rattle.mm_bson.specs.Tree.{Elements, depth, values_depth};
 ghost use Rattle.mm_bson.specs.Named.{unnamed};
 ghost use Rattle.mm_bson.specs.Spelling.{spelling, array_spelling, value_spelling, elements_spelling};
 ghost use Rattle.mm_bson.specs.View.{tree, tree_in, elements_of, values_of};
-ghost use Rattle.mm_bson.specs.Walk.{EndsAt, IsPlain};
+ghost use Rattle.mm_bson.specs.Walk.{EndsAt, IsPlain, SpellsDocument};
 
 use crate::doc::{Doc, Element, Value, ValueList};
 use crate::place::{DocRef, Fields, ListRef, ValueRef};
@@ -160,13 +160,23 @@ fn list(
 }
 
 impl Doc {
+    /// The document of these bytes, which are known to spell one. They are read
+    /// once and not copied.
+    pub fn of_spelled(bytes: Vec<u8>) -> Result<Doc, AllocError>
+        requires { (es : Elements) × SpellsDocument bytes.items es }
+        ensures { IfOk result (λ d. (es : Elements) → SpellsDocument bytes.items es → d ≡ es) }
+    {
+        let alloc = *bytes.allocator();
+        let end = bytes.len();
+        let all = Shared::of_vec(bytes)?;
+        document(alloc, &all, end, &DocRef::of_spelled(all.as_slice()))
+    }
+
     /// A document in memory that is the one in place.
     pub fn copy_of(alloc: Global, document: &DocRef<'_>) -> Result<Doc, AllocError>
         ensures { IfOk result (λ d. d ≡ document.now) }
     {
-        let bytes = document.bytes();
-        let all = Shared::of_vec(Vec::from_slice(alloc, bytes)?)?;
-        self::document(alloc, &all, bytes.len(), document)
+        Doc::of_spelled(Vec::from_slice(alloc, document.bytes())?)
     }
 
     /// The document again.

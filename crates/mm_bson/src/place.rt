@@ -7,7 +7,7 @@ ghost use Rattle.std.specs.Str.{is_utf8};
 ghost use Rattle.mm_bson.specs.Tree.{Tree, tree_depth, Elements, no_elements, element, no_values, item};
 ghost use Rattle.mm_bson.specs.Spelling.{spelling, array_spelling, value_spelling, elements_spelling, IsDocument, IsValue};
 ghost use Rattle.mm_bson.specs.Reading.{whole, body};
-ghost use Rattle.mm_bson.specs.Faults.{IsExplained};
+ghost use Rattle.mm_bson.specs.Faults.{IsExplained, IsShown};
 ghost use Rattle.mm_bson.specs.Piece.{Is, piece, piece_for};
 ghost use Rattle.mm_bson.specs.Built.{IsBuilt, IsBuiltArray};
 ghost use Rattle.mm_bson.specs.Named.{named, unnamed};
@@ -249,6 +249,8 @@ impl<'a> DocRef<'a> {
         ensures only { (d : Elements) → IsDocument d → bytes.now ≡ spelling d → Is (λ x. x) result (Ok d) }
         // Each fault lies in the bytes, and `TooLong` comes of the length alone.
         ensures explained { IfErr result (IsExplained bytes.now) }
+        // What stands where the fault is.
+        ensures shown { IfErr result (IsShown bytes.now) }
         // Which fault it is.
         ensures exact { Is (λ x. x) result (whole bytes.now) }
     {

@@ -178,3 +178,21 @@ pub(crate) fn put_more(
     put_element(bytes, name, value);
     Ok(())
 }
+
+impl<'a> ValueRef<'a> {
+    ghost use Rattle.std.specs.Prelude.{◌≡◌, ◌++◌, ◌<◌, ◌^◌, length, OnOk, OnErr};
+    ghost use Rattle.mm_bson.specs.Spelling.{value_spelling};
+    ghost use Rattle.mm_bson.specs.View.{tree_in};
+
+    /// Puts the spelling of the value behind other bytes. Where memory runs
+    /// out, nothing is put.
+    pub fn put(&self, out: &mut Vec<u8>) -> Result<(), AllocError>
+        requires { length (value_spelling (tree_in self.now)) < 2 ^ 31 }
+        ensures ok { OnOk result (out.new.items ≡ out.old.items ++ value_spelling (tree_in self.now)) }
+        ensures err { OnErr result (out.new.items ≡ out.old.items) }
+    {
+        out.reserve(self.spelled_len())?;
+        put_value(out, self);
+        Ok(())
+    }
+}

@@ -37,7 +37,7 @@ elements-fields-preserved t c =
     let lies = subst (λ (es : Elements). EndsAt c.args.end (elements_spelling es) c.args.all.now) c.in-Some.ensures.some c.fields.invariant.lies in
     record {
       parts = one_more c.fields.found.items (record { name = c.in_ok-name.name; value = c.in_ok-value.value }) c.push.new.self.items field.name (tree_in field.value) c.next.new.self c.fields.rest c.args.fields
-      c.in_ok-push.ensures.items (c.in_ok-name.ensures ∙ c.as_bytes.ensures.bytes) c.in_ok-value.ensures c.in-Some.ensures.some c.fields.invariant.parts;
+          c.in_ok-push.ensures.items (c.in_ok-name.ensures ∙ c.as_bytes.ensures.bytes) c.in_ok-value.ensures c.in-Some.ensures.some c.fields.invariant.parts;
       lies = (field_ends c.args.end field.name (tree_in field.value) c.next.new.self c.args.all.now lies).1;
       shallow = omega (arith, ap depth c.in-Some.ensures.some, c.fields.invariant.shallow);
     }
@@ -77,7 +77,7 @@ values-fields-preserved t c =
     let lies = subst (λ (es : Elements). EndsAt c.args.end (elements_spelling es) c.args.all.now) c.in-Some.ensures.some c.fields.invariant.lies in
     record {
       parts = one_more_value c.fields.found.items c.in_ok-value.field-0 c.push.new.self.items field.name (tree_in field.value) c.next.new.self c.fields.rest (unnamed c.args.fields)
-      c.in_ok-push.ensures.items c.in_ok-value.ensures c.in-Some.ensures.some c.fields.invariant.parts;
+          c.in_ok-push.ensures.items c.in_ok-value.ensures c.in-Some.ensures.some c.fields.invariant.parts;
       lies = (field_ends c.args.end field.name (tree_in field.value) c.next.new.self c.args.all.now lies).1;
       shallow = omega (arith, ap depth c.in-Some.ensures.some, c.fields.invariant.shallow);
     }

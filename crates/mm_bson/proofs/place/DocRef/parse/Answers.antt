@@ -5,6 +5,7 @@ use Rattle.mm_bson.specs.Reading.{whole}
 use Rattle.mm_bson.proofs.Takes.{whole_takes}
 use Rattle.mm_bson.proofs.Again.{whole_again}
 use Rattle.mm_bson.proofs.Places.{whole_explained}
+use Rattle.mm_bson.proofs.Shown.{whole_shown}
 use Rattle.mm_bson.proofs.Walks.{read_spells}
 use Rattle.mm_bson.proofs.place.DocRef.parse.Goals as goal
 
@@ -29,3 +30,6 @@ returns-in-Err-clause-only c = λ d fits e. absurd (differ (whole c.args.bytes.n
 
 pub returns-in-Err-clause-explained : goal.returns-in-Err-clause-explained
 returns-in-Err-clause-explained c = whole_explained c.args.bytes.now c.in-Err.fault (λ i. omega (arith, c.type_inv.bytes i)) c.in-Err.ensures
+
+pub returns-in-Err-clause-shown : goal.returns-in-Err-clause-shown
+returns-in-Err-clause-shown c = whole_shown c.args.bytes.now c.in-Err.fault (λ i. omega (arith, c.type_inv.bytes i)) c.in-Err.ensures
