@@ -3,11 +3,11 @@ use Rattle.std.proofs.Common.{◌≡◌, ◌≢◌, ℕ, zero, suc, Bool, true, 
 use Rattle.std.specs.Prelude.{◌&&◌, ◌||◌, nat_le, nat_lt, ◌==◌, if◌then◌else◌, IsTrue}
 use Rattle.std.specs.List.{list_all}
 use Rattle.std.proofs.lemmas.Bool.Decides.{nat_tests}
-use Rattle.mm_ranges.specs.declared.limits.TheConstants.{NS_FILE, MAX_NS_LEN, MAX_FILE_LEN, PAGE_LEN}
+
 use Rattle.mm_ranges.specs.Places.{Range, is_range, is_span, is_normal}
 use Rattle.mm_ranges.specs.Places as places
 use Rattle.mm_ranges.specs.Overlay.{ranges_of}
-use Rattle.mm_ranges.specs.Limits.{is_file, most_of, is_allowed, is_rising, may_be_made, IsAllowed}
+use Rattle.mm_ranges.specs.Limits.{is_file, most_of, page_len, is_allowed, is_rising, may_be_made, IsAllowed}
 use Rattle.mm_ranges.specs.declared.part.Piece.{Piece}
 use Rattle.mm_ranges.specs.declared.part.Made.{Made}
 use Rattle.mm_ranges.specs.declared.part.Part.{Part}
@@ -35,8 +35,8 @@ most_small n = grind (arith, nat_tests)
 
 made_can : (m : Made) → may_be_made m ≡ true → CanEntry (make_of m)
 made_can m is =
-    let p = both (is_file m.file) (m.len % PAGE_LEN == 0 && nat_le m.len (most_of m.file)) is in
-    let q = both (m.len % PAGE_LEN == 0) (nat_le m.len (most_of m.file)) p.1 in
+    let p = both (is_file m.file) (m.len % page_len == 0 && nat_le m.len (most_of m.file)) is in
+    let q = both (m.len % page_len == 0) (nat_le m.len (most_of m.file)) p.1 in
     let short : m.len ≤ most_of m.file = grind (arith, nat_tests) in
     (file_small m.file p.0, omega (arith, short, most_small m.file))
 
