@@ -43,7 +43,7 @@ equals-decides u t = it_or_item-decides (λ v. is_eq (compare v u)) (λ v. compa
 stands-decides : (operator : Operator) (u t : Tree) → Decides (stands operator u t) (Stands operator u t)
 stands-decides operator u t =
     it_or_item-decides (λ v. class v == class u && is_so operator (compare v u)) (λ v. (class v ≡ class u) × (is_so operator (compare v u) ≡ true))
-        (λ v. Decides-and (class v == class u) (is_so operator (compare v u)) (Decides-eqb (class v) (class u)) ((λ e. e), (λ e. e))) t
+    (λ v. Decides-and (class v == class u) (is_so operator (compare v u)) (Decides-eqb (class v) (class u)) ((λ e. e), (λ e. e))) t
 
 equals_some-decides : (u t : Tree) → Decides (equals_some u t) (EqualsSome u t)
 equals_some-decides u t = some_item-decides (λ v. equals v t) (λ v. Equals v t) (λ v. equals-decides v t) u
@@ -98,8 +98,8 @@ mutual
   selects-decides no_elements d = always
   selects-decides (element name t es) d =
       Decides-and (if is_and name then all_select t d else (if is_or name then some_select t d else meets t (value_at_path name d))) (selects es d)
-          (either (is_and name) _ _ _ _ (all_select-decides t d) (either (is_or name) _ _ _ _ (some_select-decides t d) (meets-decides t (value_at_path name d))))
-          (selects-decides es d)
+      (either (is_and name) _ _ _ _ (all_select-decides t d) (either (is_or name) _ _ _ _ (some_select-decides t d) (meets-decides t (value_at_path name d))))
+      (selects-decides es d)
 
   all_select-decides : (t : Tree) (d : Elements) → Decides (all_select t d) (AllMatch t d)
   all_select-decides (document es) d = selects-decides es d

@@ -29,7 +29,5 @@ mod side;
 pub use bounds::Bounds;
 pub use fault::FilterFault;
 pub use filter::Filter;
-pub use laws::{
-    contraries, empty_filter_matches_all, one_filter_is_itself, selects_what_matches,
-};
+pub use laws::{contraries, empty_filter_matches_all, one_filter_is_itself, selects_what_matches};
 pub use memory::NoMemory;
