@@ -1,0 +1,72 @@
+-- What the lsn file may leave, call by call.
+use Rattle.std.proofs.Common.{◌≡◌, inl, inr, ℕ, zero, suc, ◌+◌, ◌<◌, ◌≤◌, Bool, true, false, List, [], ◌∷◌, length, drop, Option, Some, None, sym, ◌∙◌, ap, arith}
+use mathlib.Core.Bool.{true≢false}
+use Rattle.std.proofs.lemmas.Bool.{cases_Bool}
+use Rattle.std.proofs.lemmas.Grind.{common_steps}
+use Rattle.std.proofs.lemmas.List.{drop_all, append-nil}
+use Rattle.std.proofs.lemmas.Option.{same_Some}
+use Rattle.std.specs.Ordering.{eq_by_cmp}
+use Rattle.std.specs.Prelude.{unwrap_or, Contains, ◌++◌}
+use Rattle.mm_bytes.specs.Files.{overwritten, resized}
+use Rattle.mm_outside.specs.Image.{name_cmp}
+use Rattle.mm_outside.specs.Told.{Creates, Writes, Resizes, Syncs}
+use Rattle.mm_outside.specs.Place.{place_by, clean}
+use Rattle.mm_outside.proofs.Places.{one_name, same_name}
+use Rattle.mm_bytes.proofs.Files.{length-resized}
+use Rattle.mm_crash.specs.Journal.{Format}
+use Rattle.mm_crash.specs.Chance.{IsOldOrNew}
+use Rattle.mm_crash.specs.Story.{Story}
+use Rattle.mm_crash.specs.Parts.{LsnAt, LsnPart}
+use Rattle.mm_crash.proofs.Journals.{clean_left}
+
+-- a list of one has its one element
+pub only_one : (w v : ℕ × List ℕ) → Contains (w ∷ []) v → w ≡ v
+only_one w v c = by c.0 c.1 c.2
+  where
+    by : (k : ℕ) → k < 1 → Rattle.std.specs.List.slice_index_or (w ∷ []) k v ≡ v → w ≡ v
+    by zero lt e = e
+    by (suc k) lt e = absurd (omega arith)
+
+pub apart_lists : (x y : List ℕ) → eq_by_cmp name_cmp x y ≡ false → x ≡ y → ⊥
+apart_lists x y e is = true≢false (sym (same_name y) ∙ ap (λ (n : List ℕ). eq_by_cmp name_cmp n y) (sym is) ∙ e)
+
+module _ (fmt : Format) (story : Story) (mark floor : ℕ) where
+  pub lsn_rests : (l : ℕ) → mark ≤ l → l ≤ floor → LsnPart fmt story mark floor (clean (Some (fmt.number (story.last + l))))
+  lsn_rests l ml lf left may chance = inr (l, ml, lf, ap (λ (o : Option (List ℕ)). unwrap_or o []) (clean_left _ left may))
+
+  -- it is the old number, the new one, or no number
+  old_or_new : (l : ℕ) → mark ≤ l → l ≤ floor → (left : List ℕ) → IsOldOrNew fmt (Some (fmt.number (story.last + mark))) ((0, fmt.number (story.last + l)) ∷ []) left → LsnAt fmt story mark floor left
+  old_or_new l ml lf left chance = elim (cases_Bool (eq_by_cmp name_cmp left (fmt.number (story.last + mark)))) [
+    | inl is_old ↦ inr (mark, omega arith, omega arith, one_name left _ is_old)
+    | inr not_old ↦ elim (cases_Bool (eq_by_cmp name_cmp left (fmt.number (story.last + l)))) [
+      | inl is_new ↦ inr (l, ml, lf, one_name left _ is_new)
+      | inr not_new ↦ inl (λ n is. elim (chance n is) [
+        | inl old ↦ apart_lists left _ not_old (is ∙ sym (same_Some _ _ old))
+        | inr new ↦ apart_lists left _ not_new (is ∙ sym (ap (λ (w : ℕ × List ℕ). w.1) (only_one _ _ new)))
+      ])
+    ]
+  ]
+
+  pub lsn_writing : (l : ℕ) → mark ≤ l → l ≤ floor → (done : Bool) → LsnPart fmt story mark floor (place_by (Writes 0 (fmt.number (story.last + l))) done (clean (Some (fmt.number (story.last + mark)))))
+  lsn_writing l ml lf done left may chance = old_or_new l ml lf (unwrap_or left []) chance
+
+-- it is synced
+pub lsn_synced : (fmt : Format) (m n : ℕ) → place_by Syncs true (place_by (Writes 0 (fmt.number n)) true (clean (Some (fmt.number m)))) ≡ clean (Some (fmt.number n))
+lsn_synced fmt m n =
+    let front : resized 0 (fmt.number m) ≡ [] = grind (arith, common_steps) in
+    let over : overwritten 0 (fmt.number n) (fmt.number m) ≡ fmt.number n = ap (λ (l : List ℕ). l ++ fmt.number n ++ drop (0 + length (fmt.number n)) (fmt.number m)) front ∙ ap (λ (l : List ℕ). fmt.number n ++ l) (drop_all (0 + length (fmt.number n)) (fmt.number m) (omega (arith, fmt.sized m, fmt.sized n))) ∙ append-nil (fmt.number n) in
+    ap (λ (l : List ℕ). clean (Some l)) over
+
+-- the number is written over whatever the file held
+pub marked : (size : ℕ) (bytes : List ℕ) (old : Option (List ℕ)) → length bytes ≡ size → place_by Syncs true (place_by (Writes 0 bytes) true (place_by (Resizes size) true (place_by Creates true (clean old)))) ≡ clean (Some bytes)
+marked size bytes old is = by old
+  where
+    whole : (l : List ℕ) → overwritten 0 bytes (resized size l) ≡ bytes
+    whole l =
+        let front : resized 0 (resized size l) ≡ [] = grind (arith, common_steps) in
+        ap (λ (k : List ℕ). k ++ bytes ++ drop (0 + length bytes) (resized size l)) front
+        ∙ ap (λ (k : List ℕ). bytes ++ k) (drop_all (0 + length bytes) (resized size l) (omega (arith, length-resized size l))) ∙ append-nil bytes
+
+    by : (old : Option (List ℕ)) → place_by Syncs true (place_by (Writes 0 bytes) true (place_by (Resizes size) true (place_by Creates true (clean old)))) ≡ clean (Some bytes)
+    by None = ap (λ (l : List ℕ). clean (Some l)) (whole [])
+    by (Some old) = ap (λ (l : List ℕ). clean (Some l)) (whole old)
