@@ -1,15 +1,16 @@
 -- A section has one spelling for an id, and none begins with another's.
 use Rattle.std.proofs.Common.{◌≡◌, ◌≢◌, ℕ, ◌+◌, ◌-◌, ◌^◌, ◌<◌, ◌≤◌, List, [], ◌∷◌, ◌++◌, length, map, refl, sym, ◌∙◌, ap, arith, append_assoc, length-append}
 use Rattle.mm_base.specs.Bytes.{part}
-use Rattle.mm_base.specs.Fields.{u32_bytes, u32_of}
-use Rattle.mm_base.proofs.Numbers.{length-u32_bytes, u32_again}
+use Rattle.mm_base.specs.Fields.{u32_bytes, u32_of, u64_bytes, u64_of}
+use Rattle.mm_base.specs.Tables.{joined}
+use Rattle.mm_base.proofs.Numbers.{length-u32_bytes, length-u64_bytes, u32_again, u64_again}
 use Rattle.mm_base.proofs.Parts.{part_first, part_left}
 use Rattle.mm_frames.specs.EntryHead.{entry_head_bytes, entry_head_of, made_entry_bytes, made_entry_of}
-use Rattle.mm_frames.specs.SectionHeader.{section_header_bytes, section_header_of}
+use Rattle.mm_frames.specs.SectionHeader.{section_header_bytes}
 use Rattle.mm_frames.specs.declared.entry_head.EntryHead.{EntryHead}
 use Rattle.mm_frames.specs.declared.entry_head.MadeEntry.{MadeEntry}
 use Rattle.mm_frames.specs.declared.section_header.SectionHeader.{SectionHeader}
-use Rattle.mm_frames.proofs.JournalFrames.{length-section_header_bytes, section_header_again, length-entry_head_bytes, entry_head_again, entry_head_word, length-made_entry_bytes, made_entry_again, made_entry_word}
+use Rattle.mm_frames.proofs.JournalFrames.{length-section_header_bytes, length-entry_head_bytes, entry_head_again, entry_head_word, length-made_entry_bytes, made_entry_again, made_entry_word}
 use Rattle.mm_ranges.specs.declared.part.Piece.{Piece}
 use Rattle.mm_ranges.specs.declared.part.Made.{Made}
 use Rattle.mm_ranges.specs.declared.part.Part.{Part}
@@ -226,9 +227,21 @@ parts_apart (p ∷ ps) (q ∷ qs) e =
 
 -- ---- sections
 
+-- headers with the same bytes have one length and one number, whatever their ids
+head_fields : (h k : SectionHeader) → h.len < 2 ^ 32 → k.len < 2 ^ 32 → h.number < 2 ^ 64 → k.number < 2 ^ 64 → section_header_bytes h ≡ section_header_bytes k → (h.len ≡ k.len) × (h.number ≡ k.number)
+unfolding section_header_bytes joined
+head_fields h k short_h short_k small_h small_k is =
+    let rest_h = u64_bytes h.file_id ++ [] in
+    let rest_k = u64_bytes k.file_id ++ [] in
+    let first = same_parts (u32_bytes h.len) (u32_bytes k.len) (u64_bytes h.number ++ rest_h) (u64_bytes k.number ++ rest_k) (length-u32_bytes h.len ∙ sym (length-u32_bytes k.len)) is in
+    let second = same_parts (u64_bytes h.number) (u64_bytes k.number) rest_h rest_k (length-u64_bytes h.number ∙ sym (length-u64_bytes k.number)) first.1 in (
+      sym (u32_again h.len short_h) ∙ ap u32_of first.0 ∙ u32_again k.len short_k,
+      sym (u64_again h.number small_h) ∙ ap u64_of second.0 ∙ u64_again k.number small_k,
+    )
+
 -- entries that stand sealed at the front of the same bytes are the same
-pub sealed_apart : (id m n : ℕ) (es ds x y : List ℕ) → id < 2 ^ 64 → m < 2 ^ 64 → n < 2 ^ 64 → sealed_len es < 2 ^ 32 → sealed_len ds < 2 ^ 32 → sealed m id es ++ x ≡ sealed n id ds ++ y → (m ≡ n) × (es ≡ ds)
-sealed_apart id m n es ds x y fits fits_m fits_n short_e short_d is =
+pub sealed_apart : (id m n : ℕ) (es ds x y : List ℕ) → m < 2 ^ 64 → n < 2 ^ 64 → sealed_len es < 2 ^ 32 → sealed_len ds < 2 ^ 32 → sealed m id es ++ x ≡ sealed n id ds ++ y → (m ≡ n) × (es ≡ ds)
+sealed_apart id m n es ds x y fits_m fits_n short_e short_d is =
     let h : SectionHeader = record { len = sealed_len es; number = m; file_id = id } in
     let k : SectionHeader = record { len = sealed_len ds; number = n; file_id = id } in
     let a = section_header_bytes h in
@@ -238,14 +251,14 @@ sealed_apart id m n es ds x y fits fits_m fits_n short_e short_d is =
     let whole : a ++ (es ++ (back_e ++ x)) ≡ b ++ (ds ++ (back_d ++ y)) =
     sym (append_assoc a es (back_e ++ x)) ∙ sym (append_assoc (a ++ es) back_e x) ∙ is ∙ append_assoc (b ++ ds) back_d y ∙ append_assoc b ds (back_d ++ y) in
     let heads = same_parts a b (es ++ (back_e ++ x)) (ds ++ (back_d ++ y)) (length-section_header_bytes h ∙ sym (length-section_header_bytes k)) whole in
-    let head : h ≡ k = sym (section_header_again h short_e fits_m fits) ∙ ap section_header_of heads.0 ∙ section_header_again k short_d fits_n fits in
-    let sized : length es ≡ length ds = omega (arith, ap (λ (z : SectionHeader). z.len) head) in
-    (ap (λ (z : SectionHeader). z.number) head, (same_parts es ds (back_e ++ x) (back_d ++ y) sized heads.1).0)
+    let fields = head_fields h k short_e short_d fits_m fits_n heads.0 in
+    let sized : length es ≡ length ds = omega (arith, fields.0) in
+    (fields.1, (same_parts es ds (back_e ++ x) (back_d ++ y) sized heads.1).0)
 
 -- no spelled section begins with another's
-pub section_apart : (id : ℕ) (s t : Section) (x y : List ℕ) → id < 2 ^ 64 → IsSpellable s → IsSpellable t → section_bytes id s ++ x ≡ section_bytes id t ++ y → s ≡ t
-section_apart id s t x y fits cs ct is =
-    let same = sealed_apart id s.number t.number (parts_bytes s.parts) (parts_bytes t.parts) x y fits (omega (arith, cs.number)) (omega (arith, ct.number)) cs.short ct.short is in
+pub section_apart : (id : ℕ) (s t : Section) (x y : List ℕ) → IsSpellable s → IsSpellable t → section_bytes id s ++ x ≡ section_bytes id t ++ y → s ≡ t
+section_apart id s t x y cs ct is =
+    let same = sealed_apart id s.number t.number (parts_bytes s.parts) (parts_bytes t.parts) x y (omega (arith, cs.number)) (omega (arith, ct.number)) cs.short ct.short is in
     let parts : s.parts ≡ t.parts = parts_apart s.parts t.parts (entries_apart (parts_entries s.parts) (parts_entries t.parts) (parts_can s.parts cs.parts) (parts_can t.parts ct.parts) same.1) in
     ap (λ m. let z : Section = record { number = m; parts = s.parts } in z) same.0 ∙ ap (λ (l : List Part). let z : Section = record { number = t.number; parts = l } in z) parts
 
