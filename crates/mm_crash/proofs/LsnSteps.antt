@@ -1,16 +1,16 @@
 -- What the lsn file may leave, call by call.
-use Rattle.std.proofs.Common.{◌≡◌, inl, inr, ℕ, zero, suc, ◌+◌, ◌<◌, ◌≤◌, Bool, true, false, List, [], ◌∷◌, length, drop, Option, Some, None, sym, ◌∙◌, ap, arith}
+use Rattle.std.proofs.Common.{◌≡◌, inl, inr, ℕ, zero, suc, ◌+◌, ◌<◌, ◌≤◌, Bool, true, false, List, [], ◌∷◌, length, take, drop, replicate, min, max, ◌-◌, Option, Some, None, refl, sym, ◌∙◌, ap, arith}
 use mathlib.Core.Bool.{true≢false}
 use Rattle.std.proofs.lemmas.Bool.{cases_Bool}
 use Rattle.std.proofs.lemmas.Grind.{common_steps}
-use Rattle.std.proofs.lemmas.List.{drop_all, append-nil}
+use Rattle.std.proofs.lemmas.List.{drop_all, take_all, append-nil}
 use Rattle.std.proofs.lemmas.Option.{same_Some}
 use Rattle.std.specs.Ordering.{eq_by_cmp}
 use Rattle.std.specs.Prelude.{unwrap_or, Contains, ◌++◌}
 use Rattle.mm_bytes.specs.Files.{overwritten, resized}
 use Rattle.mm_outside.specs.Image.{name_cmp}
 use Rattle.mm_outside.specs.Told.{Creates, Writes, Resizes, Syncs}
-use Rattle.mm_outside.specs.Place.{place_by, clean}
+use Rattle.mm_outside.specs.Place.{Place, place_by, clean}
 use Rattle.mm_outside.proofs.Places.{one_name, same_name}
 use Rattle.mm_bytes.proofs.Files.{length-resized}
 use Rattle.mm_crash.specs.Journal.{Format}
@@ -56,6 +56,33 @@ lsn_synced fmt m n =
     let front : resized 0 (fmt.number m) ≡ [] = grind (arith, common_steps) in
     let over : overwritten 0 (fmt.number n) (fmt.number m) ≡ fmt.number n = ap (λ (l : List ℕ). l ++ fmt.number n ++ drop (0 + length (fmt.number n)) (fmt.number m)) front ∙ ap (λ (l : List ℕ). fmt.number n ++ l) (drop_all (0 + length (fmt.number n)) (fmt.number m) (omega (arith, fmt.sized m, fmt.sized n))) ∙ append-nil (fmt.number n) in
     ap (λ (l : List ℕ). clean (Some l)) over
+
+-- making a file that is there changes nothing
+pub lsn_created : (bytes : List ℕ) (done : Bool) → place_by Creates done (clean (Some bytes)) ≡ clean (Some bytes)
+lsn_created bytes true = refl
+lsn_created bytes false = refl
+
+-- nor does giving it the length that it has
+pub lsn_sized : (size : ℕ) (bytes : List ℕ) → length bytes ≡ size → (done : Bool) → place_by (Resizes size) done (clean (Some bytes)) ≡ clean (Some bytes)
+lsn_sized size bytes is true = ap (λ (l : List ℕ). with_lengths (Some l) (min (length bytes) size) (max (length bytes) size)) same ∙ lengths
+  where
+    with_lengths : Option (List ℕ) → ℕ → ℕ → Place
+    with_lengths file least greatest = record { file = file; pending = record { least = least; greatest = greatest; ranges = []; is_unsure = false }; writes = []; last_synced = Some bytes }
+
+    same : resized size bytes ≡ bytes
+    same =
+        let none : size - length bytes ≡ 0 = omega (arith, is) in
+        ap (λ n. take size bytes ++ replicate n 0) none ∙ ap (λ (l : List ℕ). l ++ []) (take_all size bytes (omega (arith, is))) ∙ append-nil bytes
+
+    lengths : with_lengths (Some bytes) (min (length bytes) size) (max (length bytes) size) ≡ clean (Some bytes)
+    lengths = ap (λ n. with_lengths (Some bytes) n (max (length bytes) size)) (omega (arith, is)) ∙ ap (λ n. with_lengths (Some bytes) (length bytes) n) (omega (arith, is))
+lsn_sized size bytes is false =
+    let least : min (length bytes) size ≡ length bytes = omega (arith, is) in
+    let greatest : max (length bytes) size ≡ length bytes = omega (arith, is) in
+    ap (λ n. with_lengths n (max (length bytes) size)) least ∙ ap (with_lengths (length bytes)) greatest
+  where
+    with_lengths : ℕ → ℕ → Place
+    with_lengths least greatest = record { file = Some bytes; pending = record { least = least; greatest = greatest; ranges = []; is_unsure = false }; writes = []; last_synced = Some bytes }
 
 -- the number is written over whatever the file held
 pub marked : (size : ℕ) (bytes : List ℕ) (old : Option (List ℕ)) → length bytes ≡ size → place_by Syncs true (place_by (Writes 0 bytes) true (place_by (Resizes size) true (place_by Creates true (clean old)))) ≡ clean (Some bytes)
