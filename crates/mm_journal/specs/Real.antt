@@ -1,0 +1,27 @@
+-- The journal's sections, headers and numbers as they are written, for the theory of crashes.
+use Rattle.std.specs.Prelude.{ℕ, ◌+◌, ◌-◌, ◌%◌, ◌^◌, Bool, true, false, ◌&&◌, nat_lt, List}
+use Rattle.std.specs.List.{list_all}
+use Rattle.mm_frames.specs.Lsn.{lsn_bytes}
+use Rattle.mm_frames.specs.JournalHeader.{journal_header_bytes, header_kind}
+use Rattle.mm_frames.specs.declared.journal_header.HeaderKind.{HeaderKind}
+use Rattle.mm_frames.specs.declared.journal_header.HeaderKind.TheVariants.{Ours, Foreign, Broken}
+use Rattle.mm_section.specs.declared.section.Section.{Section}
+use Rattle.mm_section.specs.Spells.{parts_bytes, sealed_len, are_rising}
+use Rattle.mm_section.specs.Reading.{is_part}
+
+-- the section is spelled
+abbrev pub can_spell : Section → Bool
+can_spell s = nat_lt s.number (2 ^ 64 - 1) && (list_all is_part s.parts && (are_rising s.parts && nat_lt (sealed_len (parts_bytes s.parts)) (2 ^ 32)))
+
+abbrev pub is_broken_kind : HeaderKind → Bool
+is_broken_kind Ours = false
+is_broken_kind Foreign = false
+is_broken_kind Broken = true
+
+-- the file of number n is to have the id n + 1
+abbrev pub is_broken : ℕ → List ℕ → Bool
+is_broken n bytes = is_broken_kind (header_kind (n + 1) bytes)
+
+-- the lsn file of a number, which has 64 bits
+abbrev pub number_bytes : ℕ → List ℕ
+number_bytes n = lsn_bytes (n % 2 ^ 64)
