@@ -137,6 +137,9 @@ impl Draft {
             (self.new ≡ record self.old { declared = inserted (file, at, len) self.old.declared; is_reserved = false }) }
         ensures err { OnErr result (self.new ≡ self.old) }
 
+        // It weighs at most its length and 12.
+        ensures weight { weight_in self.new.made self.new.declared ≤ weight_in self.old.made self.old.declared + (len + 12) }
+
         // Its places are declared, and those that were declared before.
         ensures covers { OnOk result (Covers self.new.declared file at len) }
         ensures covered { OnOk result

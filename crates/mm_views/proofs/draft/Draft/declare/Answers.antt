@@ -1,11 +1,12 @@
-use Rattle.std.proofs.Common.{◌∙◌, false, List, [], ◌∷◌, ◌++◌, ap, sym, subst}
+use Rattle.std.proofs.Common.{◌≡◌, ◌+◌, ◌≤◌, ◌∙◌, false, List, [], ◌∷◌, ◌++◌, ap, sym, subst, sum_by, arith}
 use Rattle.std.specs.Prelude.{is_some, ◌||◌}
-use Rattle.mm_ranges.specs.Places.{Range, inserted, is_covered, is_in}
+use Rattle.mm_ranges.specs.Places.{Range, inserted, is_covered, is_in, weight_of}
 use Rattle.mm_ranges.specs.Overlay.{IsInside}
 use Rattle.mm_ranges.specs.declared.part.Piece.{Piece}
 use Rattle.mm_ranges.proofs.Order.{spaced_of_normal}
 use Rattle.mm_ranges.proofs.Inserting.{covered-inserted}
-use Rattle.mm_views.specs.State.{Drafting}
+use Rattle.mm_ranges.proofs.Weights.{weight-inserted}
+use Rattle.mm_views.specs.State.{Drafting, weight_in}
 use Rattle.mm_views.specs.Held.{drafting_at}
 use Rattle.mm_views.proofs.Sound.{range_inside, covers_own}
 use Rattle.mm_views.proofs.DraftLemmas.{held_declared}
@@ -39,3 +40,10 @@ returns-clause-covered c = λ f p.
     ap (λ (rs : List Range). is_covered rs f p) c.in-Ok.ensures.ok
     ∙ covered-inserted (c.args.file, c.args.at, c.args.len) c.self.inside.declared f p (spaced_of_normal c.self.inside.declared c.self.invariant.draft.normal)
     ∙ ap (λ (d : Drafting). is_in f p (c.args.file, c.args.at, c.args.len) || is_covered d.declared f p) c.self.view_is
+
+pub returns-clause-weight : goal.returns-clause-weight
+returns-clause-weight c =
+    let w = weight-inserted (c.args.file, c.args.at, c.args.len) c.self.inside.declared (spaced_of_normal c.self.inside.declared c.self.invariant.draft.normal) in
+    let new : sum_by weight_of c.insert.«new».self ≡ sum_by weight_of (inserted (c.args.file, c.args.at, c.args.len) c.self.inside.declared) = ap (λ (rs : List Range). sum_by weight_of rs) c.in-Ok.ensures.ok in
+    let old : weight_in c.self.inside.made.items c.self.inside.declared ≡ weight_in c.args.self.now.made c.args.self.now.declared = ap (λ (d : Drafting). weight_in d.made d.declared) c.self.view_is in
+    omega (arith, w, new, old)
