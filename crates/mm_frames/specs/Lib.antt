@@ -11,3 +11,4 @@ pub mod EntryHead
 pub mod Footer
 pub mod JournalHeader
 pub mod Lsn
+pub mod Texts

@@ -23,6 +23,7 @@ mod entry_head;
 mod extent_header;
 mod file_header;
 mod footer;
+mod free_ends;
 mod index_pair;
 mod journal_header;
 mod lsn;
@@ -56,6 +57,7 @@ pub use file_header::{
 pub use footer::{
     FOOTER_LEN, FOOTER_WORD, Footer, HASH_LEN, footer_frame, is_footer, put_footer, read_footer,
 };
+pub use free_ends::FreeEnds;
 pub use index_pair::{INDEX_PAIR_LEN, IndexPair, put_index_pair, read_index_pair};
 pub use journal_header::{
     HeaderKind, JOURNAL_HEADER_LEN, JOURNAL_VERSION, journal_header_frame, put_journal_header,

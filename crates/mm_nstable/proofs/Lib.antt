@@ -6,3 +6,4 @@ pub mod Zeros
 pub mod Written
 pub mod Frames
 pub mod Loops
+pub mod FreeNodes

@@ -15,8 +15,9 @@ use Rattle.mm_base.specs.Names.{IsName}
 use Rattle.mm_base.proofs.NameLaws.{length_found, front_is, length-padded}
 use Rattle.mm_frames.specs.declared.node_head.NodeHead.{NodeHead}
 use Rattle.mm_frames.specs.declared.details.Details.{Details}
+use Rattle.mm_frames.specs.Texts.{text_in}
 use Rattle.mm_nstable.specs.Hash.{hash_of}
-use Rattle.mm_nstable.specs.Nodes.{count_of, node_at, nodes_of, head_in, text_in, name_in, details_in, is_free, is_used, IsNamed, IsTable, AreFreeZeros}
+use Rattle.mm_nstable.specs.Nodes.{count_of, node_at, nodes_of, head_in, name_in, details_in, is_free, is_used, IsNamed, IsTable, AreFreeZeros, SameNames}
 use Rattle.mm_nstable.specs.Table.{Held, entries_from, entries_of, table_of, probe}
 use Rattle.mm_nstable.proofs.Numbers.{hash_some}
 use Rattle.mm_nstable.proofs.Stored.{length-nodes_of, nodes_at, IsStored, nodes_stored}
@@ -308,6 +309,25 @@ details_written bytes new j n' details h used head is =
           }) (subst (OnlyAt (nodes_of bytes) j) (sym name) (only_at bytes j (name_in (node_at bytes j)) t used refl)),
       λ z. zeros_kept bytes new j n' h z (λ e. absurd (false≢true (sym used' ∙ e))),
     )
+
+lt_of : (k n : ℕ) → nat_lt k n ≡ true → k < n
+lt_of k n h = grind (arith, nat_tests)
+
+-- Details are written, and no name.
+pub same_names : (bytes new : List ℕ) (j : ℕ) (n' : List ℕ) → IsStored bytes new j n' → head_in n' ≡ head_in (node_at bytes j) → SameNames bytes new
+same_names bytes new j n' h head = record {
+  used = λ k. elim (cases_Bool (nat_lt k (count_of bytes))) [
+    | inl y ↦ ap (λ (n : ℕ). nat_lt k n && not (is_free (node_at new k))) h.count ∙ ap (λ (x : NodeHead). nat_lt k (count_of bytes) && not (x.hash == 0)) (heads k (lt_of k (count_of bytes) y))
+    | inr n ↦ ap (λ (m : ℕ). nat_lt k m && not (is_free (node_at new k))) h.count ∙ ap (λ (b : Bool). b && not (is_free (node_at new k))) n ∙ sym (ap (λ (b : Bool). b && not (is_free (node_at bytes k))) n)
+  ];
+  names = λ k used. ap (λ (x : NodeHead). text_in x.name) (heads k (used_parts bytes k used).there);
+}
+  where
+    heads : (k : ℕ) → k < count_of bytes → head_in (node_at new k) ≡ head_in (node_at bytes k)
+    heads k lt = elim (cases_Bool (k == j)) [
+      | inl y ↦ let e = eqb-true k j y in ap (λ (i : ℕ). head_in (node_at new i)) e ∙ ap head_in h.same ∙ head ∙ ap (λ (i : ℕ). head_in (node_at bytes i)) (sym e)
+      | inr n ↦ ap head_in (h.other k lt (λ e. false≢true (sym n ∙ eq-eqb k j e)))
+    ]
 
 -- A used node is cleared.
 pub is_cleared : (bytes new : List ℕ) (j : ℕ) (n' : List ℕ) → IsStored bytes new j n' → IsTable bytes → is_used bytes j ≡ true → is_free n' ≡ true → n' ≡ zeros 628

@@ -1,12 +1,12 @@
 -- The nodes of a `.ns` file (MongoDB 2.6, MMAPv1: NamespaceHashTable): as many as fit, each a hash, a name and details.
-use Rattle.std.specs.Prelude.{◌≡◌, ℕ, ◌*◌, ◌/◌, ◌<◌, Bool, true, ◌&&◌, ◌==◌, not, nat_lt, List, length, take}
-use Rattle.std.specs.List.{prefix_len}
+use Rattle.std.specs.Prelude.{◌≡◌, ℕ, ◌*◌, ◌/◌, ◌<◌, Bool, true, ◌&&◌, ◌==◌, not, nat_lt, List, length}
 use Rattle.mm_base.specs.Bytes.{part, padded, zeros}
 use Rattle.mm_base.specs.Names.{IsName}
 use Rattle.mm_base.specs.Lists.{list_of}
 use Rattle.mm_base.specs.declared.name.TheConstants.{NAME_FIELD_LEN}
 use Rattle.mm_frames.specs.NodeHead.{node_head_of}
 use Rattle.mm_frames.specs.Details.{details_of}
+use Rattle.mm_frames.specs.Texts.{text_in}
 use Rattle.mm_frames.specs.declared.node_head.TheConstants.{NODE_HEAD_LEN}
 use Rattle.mm_frames.specs.declared.node_head.NodeHead.{NodeHead}
 use Rattle.mm_frames.specs.declared.details.TheConstants.{DETAILS_LEN, NODE_LEN}
@@ -32,10 +32,6 @@ head_in node = node_head_of (part 0 NODE_HEAD_LEN node)
 unfoldable pub details_in : List ℕ → Details
 details_in node = details_of (part NODE_HEAD_LEN DETAILS_LEN node)
 
--- what stands in a field before the first zero
-unfoldable pub text_in : List ℕ → List ℕ
-text_in field = take (prefix_len (λ b. not (b == 0)) field) field
-
 abbrev pub name_in : List ℕ → List ℕ
 name_in node = text_in (head_in node).name
 
@@ -60,3 +56,8 @@ pub record IsTable (bytes : List ℕ) : Type 0 where
 -- Free nodes are all zeros, as a new file and `remove` leave them.
 abbrev pub AreFreeZeros : List ℕ → Type 0
 AreFreeZeros bytes = (k : ℕ) → k < count_of bytes → is_free (node_at bytes k) ≡ true → node_at bytes k ≡ zeros NODE_LEN
+
+-- The same nodes are used, with the same names.
+pub record SameNames (old new : List ℕ) : Type 0 where
+  pub used : (k : ℕ) → is_used new k ≡ is_used old k
+  pub names : (k : ℕ) → is_used old k ≡ true → name_in (node_at new k) ≡ name_in (node_at old k)

@@ -1,6 +1,7 @@
 //! The nodes of `.ns`, as a draft has them.
 
 ghost use Rattle.std.specs.Prelude.{◌≡◌, ◌+◌, ◌*◌, ◌<◌, ◌≤◌, true, false, length, IfSome, IfNone, OnOk, OnErr};
+ghost use Rattle.mm_views.specs.State.{weight_in};
 ghost use Rattle.mm_nstable.specs.Nodes.{count_of, node_at, head_in, name_in, details_in, is_free, IsNamed};
 ghost use Rattle.mm_nstable.specs.Changes.{ns_of, written_at, node_bytes};
 
@@ -95,6 +96,7 @@ pub(crate) fn overwrite(draft: &mut Draft, at: u32, bytes: &[u8]) -> Result<(), 
     requires short { length bytes.now ≤ 628 }
     requires inside { at + length bytes.now ≤ length (ns_of draft.old) }
     ensures ok { OnOk result (draft.new ≡ written_at at bytes.now draft.old) }
+    ensures weight { weight_in draft.new.made draft.new.declared ≤ weight_in draft.old.made draft.old.declared + (length bytes.now + 12) }
     ensures err { OnErr result (draft.new ≡ draft.old) }
 {
     draft.declare(NS_FILE, at, bytes.len() as u32)?;

@@ -1,11 +1,12 @@
 //! The map from names to details that the nodes hold.
 
-ghost use Rattle.std.specs.Prelude.{◌≡◌, ◌+◌, ◌*◌, ◌<◌, ◌++◌, ◌↔◌, map, IsTrue, IfSome, IfOk, OnOk, OnErr, IsErrOf, None, Some, count_by, take, length};
+ghost use Rattle.std.specs.Prelude.{◌≡◌, ◌+◌, ◌*◌, ◌<◌, ◌≤◌, ◌++◌, ◌↔◌, map, IsTrue, IfSome, IfOk, OnOk, OnErr, IsErrOf, None, Some, count_by, take, length};
 ghost use Rattle.std.specs.Option.{option_map};
 ghost use Rattle.std.specs.FinMap.{get, insert, remove};
 ghost use Rattle.mm_base.specs.Bytes.{zeros};
 ghost use Rattle.mm_frames.specs.Details.{details_bytes};
-ghost use Rattle.mm_nstable.specs.Nodes.{count_of, node_at, nodes_of, name_in, details_in, is_free, is_used, IsTable, AreFreeZeros};
+ghost use Rattle.mm_views.specs.State.{weight_in};
+ghost use Rattle.mm_nstable.specs.Nodes.{count_of, node_at, nodes_of, name_in, details_in, is_free, is_used, IsTable, AreFreeZeros, SameNames};
 ghost use Rattle.mm_nstable.specs.Table.{entries_of, table_of, IsFirstFree};
 ghost use Rattle.mm_nstable.specs.Changes.{ns_of, written_at, node_bytes};
 
@@ -13,7 +14,7 @@ use crate::fault::NsFault;
 use crate::nodes::{head, node_count, node_details, node_frame, node_name, overwrite, place};
 use crate::search::{first_free, holder};
 use mm_base::{Name, NoMemory};
-use mm_frames::{Details, NODE_HEAD_LEN, NODE_LEN, details_frame};
+use mm_frames::{DETAILS_LEN, Details, NODE_HEAD_LEN, NODE_LEN, details_frame};
 use mm_views::Draft;
 
 /// The number of the node that holds a name.
@@ -36,6 +37,7 @@ pub fn insert(draft: &mut Draft, name: &Name, details: &Details) -> Result<u32, 
     ensures used { IfOk result (λ node. IsTrue (is_used (ns_of draft.new) node)) }
     ensures kept { IsTable (ns_of draft.new) }
     ensures zeros { AreFreeZeros (ns_of draft.old) → AreFreeZeros (ns_of draft.new) }
+    ensures weight { weight_in draft.new.made draft.new.declared ≤ weight_in draft.old.made draft.old.declared + (NODE_LEN + 12) }
     ensures full { IsErrOf result NsFault.NsFull ↔ (count_by is_free (nodes_of (ns_of draft.old)) ≡ 0) }
     ensures err { OnErr result (draft.new ≡ draft.old) }
 {
@@ -55,6 +57,7 @@ pub fn remove(draft: &mut Draft, node: u32) -> Result<(), NoMemory>
     ensures table { OnOk result (table_of (ns_of draft.new) ≡ remove (table_of (ns_of draft.old)) (name_in (node_at (ns_of draft.old) node))) }
     ensures kept { IsTable (ns_of draft.new) }
     ensures zeros { AreFreeZeros (ns_of draft.old) → AreFreeZeros (ns_of draft.new) }
+    ensures weight { weight_in draft.new.made draft.new.declared ≤ weight_in draft.old.made draft.old.declared + (NODE_LEN + 12) }
     ensures err { OnErr result (draft.new ≡ draft.old) }
 {
     let at = place(draft, node);
@@ -106,8 +109,10 @@ pub fn put_details(draft: &mut Draft, node: u32, details: &Details) -> Result<()
     ensures written { OnOk result (draft.new ≡ written_at (NODE_LEN * node + NODE_HEAD_LEN) (details_bytes details.now) draft.old) }
     ensures table { OnOk result (IsTable (ns_of draft.old)
         → table_of (ns_of draft.new) ≡ insert (table_of (ns_of draft.old)) (name_in (node_at (ns_of draft.old) node)) (record { node = node; details = details.now })) }
+    ensures names { SameNames (ns_of draft.old) (ns_of draft.new) }
     ensures kept { IsTable (ns_of draft.old) → IsTable (ns_of draft.new) }
     ensures zeros { AreFreeZeros (ns_of draft.old) → AreFreeZeros (ns_of draft.new) }
+    ensures weight { weight_in draft.new.made draft.new.declared ≤ weight_in draft.old.made draft.old.declared + (DETAILS_LEN + 12) }
     ensures err { OnErr result (draft.new ≡ draft.old) }
 {
     let at = place(draft, node) + NODE_HEAD_LEN as u32;
