@@ -1,0 +1,7 @@
+pub mod Writes
+pub mod Fields
+pub mod Within
+pub mod Spots
+pub mod FileLaws
+pub mod ChainLaws
+pub mod Walks

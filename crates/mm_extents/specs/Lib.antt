@@ -1,0 +1,5 @@
+pub mod Heap
+pub mod Changes
+pub mod Files
+pub mod Tiling
+pub mod Chains

@@ -1,0 +1,24 @@
+//! The data files of a database as extents and blocks (MongoDB 2.6, MMAPv1).
+//!
+//! - `Heap` (specs/Heap) says what stands at each place: the header of an extent, a live record with its room, a deleted block. `IsHeap`
+//!   says that the files' bytes have each of these and that no two overlap. What is said above of tiling, chains and lists speaks of the
+//!   heap alone.
+//! - `FilesStand` says which files there are, how long, with which headers; `IsTiled` that extents tile the files, and blocks the extents;
+//!   `ExtentsStand` that each extent is once on the chain of the name that it has.
+//! - Each `set_x` writes one field of one frame: the heap changes at that place alone (`change`), and every other cell, of whatever
+//!   namespace, is as it was. It declares that frame alone (`weight`).
+//! - `next_extent` answers the extent behind another.
+//!
+//! Where there is no memory all is as it was. Which records and lists there are, and which bytes a payload has, is for the crates above.
+#![tactic(auto)]
+
+mod cells;
+mod chains;
+mod places;
+
+pub use cells::{
+    read_extent, read_record, set_deleted, set_first, set_last, set_next, set_prev, set_room,
+    set_xnext, set_xprev,
+};
+pub use chains::next_extent;
+pub use places::{Spot, link, named_spot, natural, place, spot_of};
