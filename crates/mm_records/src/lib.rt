@@ -1,0 +1,22 @@
+//! The records of a namespace as a map from places to payloads (MongoDB 2.6, MMAPv1).
+//!
+//! - `Stands` (specs/Stands) says of the files what points to what: extents tile the files and stand on the chains of their names, blocks
+//!   tile the extents, each live record is once on the chain of its extent, each deleted block once on the list that its length names, and
+//!   the details of each node count and name them rightly. A `Shape` is what the files hold: what stands at each place, and three
+//!   functions to lists.
+//! - `live_at` (specs/Map) is the map: the room of each live record of a namespace. A payload is the front of a room.
+//! - `free` takes one pair out of the map; the block heads the list of its length. `write` and `write_inside` change one room; `write`
+//!   answers false exactly where the payload is too long, and then nothing changes. `payload` gives the whole room.
+//! - Each of these says that the files stand again, and that the maps of all namespaces are as they were at every other place.
+//! - What a call declares is bounded by its clause `weight`: `write` and `write_inside` declare the bytes that they write alone, `free` 912.
+//!
+//! After `NoMemory` the draft is to be dropped. What a payload means, and which nodes are collections, is for the crates above.
+#![tactic(auto)]
+
+mod freeing;
+mod links;
+mod nodes;
+mod rooms;
+mod store;
+
+pub use store::RecordStore;

@@ -1,0 +1,90 @@
+//! The records of one namespace, as a map from places to payloads.
+
+ghost use Rattle.std.specs.Prelude.{◌≡◌, ℕ, ◌+◌, ◌≤◌, ◌++◌, ◌↔◌, List, length, IfOk, OnOk, OnErr, IsTrue, true, false};
+ghost use Rattle.mm_base.specs.Bytes.{overwritten};
+ghost use Rattle.mm_nstable.specs.Nodes.{SameNames};
+ghost use Rattle.mm_links.specs.Links.{Place};
+ghost use Rattle.mm_extents.specs.Changes.{DeclaresAtMost};
+ghost use Rattle.mm_records.specs.Shape.{Shape};
+ghost use Rattle.mm_records.specs.Stands.{Stands, ns_in};
+ghost use Rattle.mm_records.specs.Map.{HasRecord, IsFreed, IsRewritten, name_at};
+
+use crate::freeing::free_at;
+use crate::rooms::{overwrite_room, push_bytes, room_len};
+use mm_base::{DiskLoc, NoMemory};
+use mm_extents::spot_of;
+use mm_views::Draft;
+
+/// The records of the namespace of a node.
+#[derive(Clone, Copy, Debug, PartialEq, Eq)]
+pub struct RecordStore {
+    pub node: u32,
+}
+
+impl RecordStore {
+    /// The records of a node's namespace.
+    pub fn at(node: u32) -> RecordStore
+        ensures { result ≡ record { node = node } }
+    {
+        RecordStore { node }
+    }
+
+    /// Takes a record out of the map. Its block heads the list of deleted blocks of its length.
+    pub fn free(&self, draft: &mut Draft, at: DiskLoc) -> Result<(), NoMemory>
+        requires { (free : List ℕ) × ((s : Shape) × ((p : Place) × ((room : List ℕ) × HasRecord draft.old.image free s self.now.node p at room))) }
+        ensures stands { OnOk result ((free : List ℕ) (s : Shape) (p : Place) (room : List ℕ) → HasRecord draft.old.image free s self.now.node p at room
+            → (t : Shape) × (Stands draft.new.image free t × IsFreed s t (name_at draft.old.image self.now.node) p (16 + length room))) }
+        ensures names { OnOk result (SameNames (ns_in draft.old.image) (ns_in draft.new.image)) }
+        ensures weight { DeclaresAtMost 912 draft.old draft.new }
+    {
+        free_at(draft, self.node, spot_of(at))
+    }
+
+    /// Puts the whole room of a record behind what a list holds.
+    pub fn payload(&self, draft: &Draft, at: DiskLoc, out: &mut Vec<u8>) -> Result<(), NoMemory>
+        requires { (free : List ℕ) × ((s : Shape) × ((p : Place) × ((room : List ℕ) × HasRecord draft.now.image free s self.now.node p at room))) }
+        ensures ok { OnOk result ((free : List ℕ) (s : Shape) (p : Place) (room : List ℕ) → HasRecord draft.now.image free s self.now.node p at room
+            → out.new.items ≡ out.old.items ++ room) }
+        ensures err { OnErr result (out.new.items ≡ out.old.items) }
+    {
+        let spot = spot_of(at);
+        let len = room_len(draft, self.node, spot);
+        push_bytes(draft, spot.file, spot.ofs + 16, len, out)
+    }
+
+    /// Writes a payload to the front of a record's room; false where the room is too short, and then nothing changes.
+    pub fn write(&self, draft: &mut Draft, at: DiskLoc, payload: &[u8]) -> Result<bool, NoMemory>
+        requires { (free : List ℕ) × ((s : Shape) × ((p : Place) × ((room : List ℕ) × HasRecord draft.old.image free s self.now.node p at room))) }
+        ensures fits { IfOk result (λ fits. (free : List ℕ) (s : Shape) (p : Place) (room : List ℕ) → HasRecord draft.old.image free s self.now.node p at room
+            → IsTrue fits ↔ (length payload.now ≤ length room)) }
+        ensures stands { IfOk result (λ fits. (free : List ℕ) (s : Shape) (p : Place) (room : List ℕ) → HasRecord draft.old.image free s self.now.node p at room → fits ≡ true
+            → (t : Shape) × (Stands draft.new.image free t × IsRewritten s t p (overwritten 0 payload.now room))) }
+        ensures refused { IfOk result (λ fits. fits ≡ false → draft.new ≡ draft.old) }
+        ensures ns { OnOk result (ns_in draft.new.image ≡ ns_in draft.old.image) }
+        ensures weight { DeclaresAtMost (length payload.now + 12) draft.old draft.new }
+    {
+        let spot = spot_of(at);
+        if payload.len() > room_len(draft, self.node, spot) as usize {
+            return Ok(false);
+        }
+        overwrite_room(draft, self.node, spot, 0, payload)?;
+        Ok(true)
+    }
+
+    /// Writes some bytes inside a record's room, from its byte `from` on.
+    pub fn write_inside(
+        &self,
+        draft: &mut Draft,
+        at: DiskLoc,
+        from: u32,
+        bytes: &[u8],
+    ) -> Result<(), NoMemory>
+        requires { (free : List ℕ) × ((s : Shape) × ((p : Place) × ((room : List ℕ) × (HasRecord draft.old.image free s self.now.node p at room × (from + length bytes.now ≤ length room))))) }
+        ensures stands { OnOk result ((free : List ℕ) (s : Shape) (p : Place) (room : List ℕ) → HasRecord draft.old.image free s self.now.node p at room → from + length bytes.now ≤ length room
+            → (t : Shape) × (Stands draft.new.image free t × IsRewritten s t p (overwritten from bytes.now room))) }
+        ensures ns { OnOk result (ns_in draft.new.image ≡ ns_in draft.old.image) }
+        ensures weight { DeclaresAtMost (length bytes.now + 12) draft.old draft.new }
+    {
+        overwrite_room(draft, self.node, spot_of(at), from, bytes)
+    }
+}
