@@ -1,121 +1,165 @@
--- A filter's values are no deeper than the filter.
-use Rattle.std.proofs.Common.{◌≡◌, ℕ, ◌≤◌, Bool, true, false, List, Option, Some, None, refl, sym, ap, ◌∙◌, arith}
+-- A limit is no deeper than the filter, or than an end of a class.
+use Rattle.std.proofs.Common.{◌≡◌, ℕ, ◌≤◌, ◌<◌, Bool, true, false, List, Option, Some, None, refl, sym, ap, ◌∙◌, subst, arith}
 use Rattle.std.specs.Prelude.{option_map, if◌then◌else◌, max}
 use Rattle.std.specs.Borrow.{Bor}
-use Rattle.std.specs.declared.cmp.Ordering.{Ordering}
-use Rattle.std.specs.declared.cmp.Ordering.TheVariants.{Less, Equal, Greater}
-use Rattle.std.specs.Ordering.{min_by_ordering}
+use Rattle.std.specs.Ordering.{is_eq}
 use Rattle.mm_bson.specs.declared.doc.Value.{Value}
 use Rattle.mm_bson.specs.View.{tree}
-use Rattle.mm_bson.specs.Tree.{Tree, document, array, Elements, no_elements, element, Values, no_values, item, tree_depth, depth, values_depth}
+use Rattle.mm_bson.specs.Tree.{Tree, min_key, null, int32, int64, string, document, array, binary, object_id, boolean, date, timestamp, max_key, Elements, no_elements, element, Values, no_values, item, tree_depth, depth, values_depth}
+use Rattle.mm_bson.specs.Order.{compare}
 use Rattle.mm_query.specs.declared.operator.Operator.{Operator}
-use Rattle.mm_query.specs.declared.operator.Operator.TheVariants.{Gt, Gte, Lt, Lte, In}
+use Rattle.mm_query.specs.declared.operator.Operator.TheVariants.{Gt, Gte, Lt, Lte, In, Exists}
 use Rattle.mm_query.specs.declared.side.Side.{Side}
 use Rattle.mm_query.specs.declared.side.Side.TheVariants.{Low, High}
-use Rattle.mm_query.specs.Form.{or, operator_of, has_operators}
-use Rattle.mm_query.specs.Bounds.{is_at, equal_to, from_side, outer, outermost, outermost_in, limit_by, opposite, tighter, limit_among, limit_in, first_equal, limit_at, value_bound}
+use Rattle.mm_query.specs.Form.{or, operator_of, has_operators, is_and}
+use Rattle.mm_query.specs.Bounds.{is_at, equal_to, outer_of, opposite, tighter, nothing, least, greatest, class_end, range_limit, weak_limit, strict_limit, unless_array, outermost, or_nothing, in_limit, exists_limit, limit_by, limit_among, limit_in, limit_at, limit_inside, limit_each, first_equal, value_bound}
+use Rattle.mm_query.proofs.Outer.{outer_of_keeps}
 
-outer_shallow : (side : Side) (t u : Tree) → tree_depth (outer side t u) ≤ max (tree_depth t) (tree_depth u)
-outer_shallow side t u = by (from_side side t u)
-  where
-    by : (o : Ordering) → tree_depth (min_by_ordering o t u) ≤ max (tree_depth t) (tree_depth u)
-    by Less = omega arith
-    by Equal = omega arith
-    by Greater = omega arith
+nothing_flat : (side : Side) → tree_depth (nothing side) ≤ 0
+nothing_flat Low = omega arith
+nothing_flat High = omega arith
 
-outermost_shallow : (side : Side) (t : Tree) (vs : Values) → tree_depth (outermost side t vs) ≤ max (tree_depth t) (values_depth vs)
-outermost_shallow side t no_values = omega arith
-outermost_shallow side t (item u vs) = omega (arith, outermost_shallow side (outer side t u) vs, outer_shallow side t u)
+ends_flat : (u : Tree) → (tree_depth (least u) ≤ 1) × (tree_depth (greatest u) ≤ 1)
+ends_flat min_key = (omega arith, omega arith)
+ends_flat null = (omega arith, omega arith)
+ends_flat (int32 z) = (omega arith, omega arith)
+ends_flat (int64 z) = (omega arith, omega arith)
+ends_flat (string s) = (omega arith, omega arith)
+ends_flat (document es) = (omega arith, omega arith)
+ends_flat (array vs) = (omega arith, omega arith)
+ends_flat (binary k bytes) = (omega arith, omega arith)
+ends_flat (object_id bytes) = (omega arith, omega arith)
+ends_flat (boolean b) = (omega arith, omega arith)
+ends_flat (date z) = (omega arith, omega arith)
+ends_flat (timestamp s i) = (omega arith, omega arith)
+ends_flat max_key = (omega arith, omega arith)
 
-in_shallow : (side : Side) (u t : Tree) → outermost_in side u ≡ Some t → tree_depth t ≤ tree_depth u
-in_shallow side (array no_values) t is = absurd cc
-in_shallow side (array (item v vs)) t is =
-    let same : outermost side v vs ≡ t = cc in
-    omega (arith, outermost_shallow side v vs, ap tree_depth same)
-in_shallow side _ t is = absurd cc
+-- so many levels are allowed, one at least
+module _ (n : ℕ) (some : 1 ≤ n) where
+  abbrev IsShallow : Option Tree → Type 0
+  IsShallow o = (t : Tree) → o ≡ Some t → tree_depth t ≤ n
 
-operand_shallow : (u t : Tree) → Some u ≡ Some t → tree_depth t ≤ tree_depth u
-operand_shallow u t is =
-    let same : u ≡ t = cc in
-    omega (arith, ap tree_depth same)
+  of_one : (t : Tree) → tree_depth t ≤ n → IsShallow (Some t)
+  of_one t le u is =
+      let same : t ≡ u = cc in
+      omega (arith, le, ap tree_depth same)
 
-limit_by_shallow : (side : Side) (operator : Option Operator) (u t : Tree) → limit_by side operator u ≡ Some t → tree_depth t ≤ tree_depth u
-limit_by_shallow Low (Some Gt) u t is = operand_shallow u t is
-limit_by_shallow Low (Some Gte) u t is = operand_shallow u t is
-limit_by_shallow High (Some Lt) u t is = operand_shallow u t is
-limit_by_shallow High (Some Lte) u t is = operand_shallow u t is
-limit_by_shallow side (Some In) u t is = in_shallow side u t is
-limit_by_shallow _ _ u t is = absurd cc
+  of_none : IsShallow None
+  of_none t is = absurd cc
 
--- a limit, where it is there, has at most so many levels
-abbrev IsShallow : Option Tree → ℕ → Type 0
-IsShallow o n = (t : Tree) → o ≡ Some t → tree_depth t ≤ n
+  outer_shallow : (side : Side) (a b : Option Tree) → IsShallow a → IsShallow b → IsShallow (outer_of side a b)
+  outer_shallow side a b h k = outer_of_keeps (λ t. tree_depth t ≤ n) side a b h k
 
-tighter_shallow : (side : Side) (best more : Option Tree) (n : ℕ) → IsShallow best n → IsShallow more n → IsShallow (tighter side best more) n
-tighter_shallow side None more n h k = k
-tighter_shallow side (Some t) None n h k = h
-tighter_shallow side (Some t) (Some u) n h k = by (from_side (opposite side) t u)
-  where
-    by : (o : Ordering) → IsShallow (Some (min_by_ordering o t u)) n
-    by Less = h
-    by Equal = h
-    by Greater = k
+  range_shallow : (from side : Side) (u : Tree) → tree_depth u ≤ n → tree_depth (range_limit from side u) ≤ n
+  range_shallow Low Low u le = le
+  range_shallow Low High u le = omega (arith, (ends_flat u).1, some)
+  range_shallow High Low u le = omega (arith, (ends_flat u).0, some)
+  range_shallow High High u le = le
 
-among_shallow : (side : Side) (best : Option Tree) (es : Elements) (n : ℕ) → depth es ≤ n → IsShallow best n → IsShallow (limit_among side best es) n
-among_shallow side best no_elements n le h = h
-among_shallow side best (element name u es) n le h =
-    among_shallow side (tighter side best (limit_by side (operator_of name) u)) es n (omega (arith, le))
-    (tighter_shallow side best (limit_by side (operator_of name) u) n h (λ t is. omega (arith, le, limit_by_shallow side (operator_of name) u t is)))
+  weak_shallow : (from side : Side) (u : Tree) → tree_depth u ≤ n → tree_depth (weak_limit from side u) ≤ n
+  weak_shallow from side (array vs) le = omega (arith, nothing_flat side)
+  weak_shallow from side u le = range_shallow from side u le
 
-equal_shallow : (u t : Tree) → equal_to u ≡ Some t → tree_depth t ≤ tree_depth u
-equal_shallow (array vs) t is = absurd cc
-equal_shallow (document es) t is = by (has_operators es) is
-  where
-    by : (b : Bool) → (if b then None else Some (document es)) ≡ Some t → tree_depth t ≤ tree_depth (document es)
-    by true is = absurd cc
-    by false is =
-        let same : document es ≡ t = cc in
-        omega (arith, ap tree_depth same)
-equal_shallow u t is =
-    let same : u ≡ t = cc in
-    omega (arith, ap tree_depth same)
+  strict_shallow : (from side : Side) (u : Tree) → tree_depth u ≤ n → tree_depth (strict_limit from side u) ≤ n
+  strict_shallow from side u le = by (is_eq (compare u (class_end (opposite from) u)))
+    where
+      by : (b : Bool) → tree_depth (if b then nothing side else weak_limit from side u) ≤ n
+      by true = omega (arith, nothing_flat side)
+      by false = weak_shallow from side u le
 
-limit_shallow : (side : Side) (best : Option Tree) (u : Tree) (n : ℕ) → tree_depth u ≤ n → IsShallow best n → IsShallow (limit_in side best u) n
-limit_shallow side best (document es) n le h = by (has_operators es)
-  where
-    by : (b : Bool) → IsShallow (if b then limit_among side best es else best) n
-    by true = among_shallow side best es n (omega (arith, le)) h
-    by false = h
-limit_shallow side best _ n le h = h
+  unless_shallow : (u : Tree) → tree_depth u ≤ n → IsShallow (unless_array u)
+  unless_shallow (array vs) le = of_none
+  unless_shallow u le = of_one u le
 
-first_shallow : (path : List ℕ) (es : Elements) (t : Tree) → first_equal path es ≡ Some t → tree_depth t ≤ depth es
-first_shallow path no_elements t is = absurd cc
-first_shallow path (element name u es) t is = by (is_at path name) (equal_to u) refl is (λ later. first_shallow path es t later)
-  where
-    by : (b : Bool) (o : Option Tree) → equal_to u ≡ o → or (if b then o else None) (first_equal path es) ≡ Some t → (first_equal path es ≡ Some t → tree_depth t ≤ depth es) → tree_depth t ≤ max (tree_depth u) (depth es)
-    by false o here is later = omega (arith, later is)
-    by true None here is later = omega (arith, later is)
-    by true (Some v) here is later =
-        let same : v ≡ t = cc in
-        omega (arith, equal_shallow u v here, ap tree_depth same)
+  outermost_shallow : (side : Side) (vs : Values) → values_depth vs ≤ n → IsShallow (outermost side vs)
+  outermost_shallow side no_values le = of_none
+  outermost_shallow side (item u vs) le = outer_shallow side (unless_array u) (outermost side vs) (unless_shallow u (omega (arith, le))) (outermost_shallow side vs (omega (arith, le)))
 
-limits_shallow : (side : Side) (path : List ℕ) (best : Option Tree) (es : Elements) (n : ℕ) → depth es ≤ n → IsShallow best n → IsShallow (limit_at side path best es) n
-limits_shallow side path best no_elements n le h = h
-limits_shallow side path best (element name u es) n le h = limits_shallow side path (if is_at path name then limit_in side best u else best) es n (omega (arith, le)) (by (is_at path name))
-  where
-    by : (b : Bool) → IsShallow (if b then limit_in side best u else best) n
-    by true = limit_shallow side best u n (omega (arith, le)) h
-    by false = h
+  in_shallow : (side : Side) (u : Tree) → tree_depth u ≤ n → IsShallow (in_limit side u)
+  in_shallow side (array vs) le = by (outermost side vs) (outermost_shallow side vs (omega (arith, le)))
+    where
+      by : (o : Option Tree) → IsShallow o → IsShallow (Some (or_nothing side o))
+      by None h = of_one (nothing side) (omega (arith, nothing_flat side))
+      by (Some t) h = h
+  in_shallow side _ le = of_none
 
-value_shallow : (side : Side) (path : List ℕ) (es : Elements) (t : Tree) → value_bound side path es ≡ Some t → tree_depth t ≤ depth es
-value_shallow side path es t is = by (first_equal path es) refl is
-  where
-    by : (o : Option Tree) → first_equal path es ≡ o → or o (limit_at side path None es) ≡ Some t → tree_depth t ≤ depth es
-    by None here is = limits_shallow side path None es (depth es) (omega arith) (λ u none. absurd cc) t is
-    by (Some v) here is =
-        let same : v ≡ t = cc in
-        omega (arith, first_shallow path es v here, ap tree_depth same)
+  exists_shallow : (u : Tree) → IsShallow (exists_limit u)
+  exists_shallow (boolean true) = of_none
+  exists_shallow (boolean false) = of_one _ (omega arith)
+  exists_shallow _ = of_none
 
-pub bound_shallow : (side : Side) (path : List ℕ) (es : Elements) (found : Bor Value) (o : Option (Bor Value)) → o ≡ Some found → option_map (λ v. tree v.now) o ≡ value_bound side path es
-    → tree_depth (tree found.now) ≤ depth es
-bound_shallow side path es found o is given = value_shallow side path es (tree found.now) (sym given ∙ ap (option_map (λ v. tree v.now)) is)
+  by_shallow : (side : Side) (operator : Option Operator) (u : Tree) → tree_depth u ≤ n → IsShallow (limit_by side operator u)
+  by_shallow side (Some Gt) u le = of_one _ (strict_shallow Low side u le)
+  by_shallow side (Some Gte) u le = of_one _ (weak_shallow Low side u le)
+  by_shallow side (Some Lt) u le = of_one _ (strict_shallow High side u le)
+  by_shallow side (Some Lte) u le = of_one _ (weak_shallow High side u le)
+  by_shallow side (Some In) u le = in_shallow side u le
+  by_shallow side (Some Exists) u le = exists_shallow u
+  by_shallow side _ u le = of_none
+
+  among_shallow : (side : Side) (es : Elements) → depth es ≤ n → IsShallow (limit_among side es)
+  among_shallow side no_elements le = of_none
+  among_shallow side (element name u es) le =
+      outer_shallow (opposite side) (limit_by side (operator_of name) u) (limit_among side es) (by_shallow side (operator_of name) u (omega (arith, le))) (among_shallow side es (omega (arith, le)))
+
+  condition_shallow : (side : Side) (u : Tree) → tree_depth u ≤ n → IsShallow (limit_in side u)
+  condition_shallow side (document es) le = by (has_operators es)
+    where
+      by : (b : Bool) → IsShallow (if b then limit_among side es else Some (document es))
+      by true = among_shallow side es (omega (arith, le))
+      by false = of_one (document es) le
+  condition_shallow side (array vs) le = of_one (nothing side) (omega (arith, nothing_flat side))
+  condition_shallow side u le = of_one u le
+
+  field_shallow : (side : Side) (path name : List ℕ) (u : Tree) → tree_depth u ≤ n → IsShallow (limit_inside side path u) → IsShallow (if is_and name then limit_inside side path u else (if is_at path name then limit_in side u else None))
+  field_shallow side path name u le inside = by (is_and name) (is_at path name)
+    where
+      by : (a b : Bool) → IsShallow (if a then limit_inside side path u else (if b then limit_in side u else None))
+      by true b = inside
+      by false true = condition_shallow side u le
+      by false false = of_none
+
+  mutual
+    at_shallow : (side : Side) (path : List ℕ) (es : Elements) → depth es ≤ n → IsShallow (limit_at side path es)
+    at_shallow side path no_elements le = of_none
+    at_shallow side path (element name u es) le =
+        outer_shallow (opposite side) (if is_and name then limit_inside side path u else (if is_at path name then limit_in side u else None)) (limit_at side path es) (field_shallow side path name u (omega (arith, le)) (inside_shallow side path u (omega (arith, le)))) (at_shallow side path es (omega (arith, le)))
+
+    inside_shallow : (side : Side) (path : List ℕ) (u : Tree) → tree_depth u ≤ n → IsShallow (limit_inside side path u)
+    inside_shallow side path (document es) le = at_shallow side path es (omega (arith, le))
+    inside_shallow side path (array vs) le = each_shallow side path vs (omega (arith, le))
+    inside_shallow side path _ le = of_none
+
+    each_shallow : (side : Side) (path : List ℕ) (vs : Values) → values_depth vs ≤ n → IsShallow (limit_each side path vs)
+    each_shallow side path no_values le = of_none
+    each_shallow side path (item u vs) le = outer_shallow (opposite side) (limit_inside side path u) (limit_each side path vs) (inside_shallow side path u (omega (arith, le))) (each_shallow side path vs (omega (arith, le)))
+
+  equal_shallow : (u : Tree) → tree_depth u ≤ n → IsShallow (equal_to u)
+  equal_shallow (array vs) le = of_none
+  equal_shallow (document es) le = by (has_operators es)
+    where
+      by : (b : Bool) → IsShallow (if b then None else Some (document es))
+      by true = of_none
+      by false = of_one (document es) le
+  equal_shallow u le = of_one u le
+
+  or_shallow : (a b : Option Tree) → IsShallow a → IsShallow b → IsShallow (or a b)
+  or_shallow None b h k = k
+  or_shallow (Some t) b h k = h
+
+  first_shallow : (path : List ℕ) (es : Elements) → depth es ≤ n → IsShallow (first_equal path es)
+  first_shallow path no_elements le = of_none
+  first_shallow path (element name u es) le = or_shallow (if is_at path name then equal_to u else None) (first_equal path es) (by (is_at path name)) (first_shallow path es (omega (arith, le)))
+    where
+      by : (b : Bool) → IsShallow (if b then equal_to u else None)
+      by true = equal_shallow u (omega (arith, le))
+      by false = of_none
+
+  value_shallow : (side : Side) (path : List ℕ) (es : Elements) → depth es ≤ n → IsShallow (value_bound side path es)
+  value_shallow side path es le = or_shallow (first_equal path es) (limit_at side path es) (first_shallow path es le) (at_shallow side path es le)
+
+pub bound_shallow : (side : Side) (path : List ℕ) (es : Elements) (found : Bor Value) (o : Option (Bor Value)) → depth es < 100 → o ≡ Some found → option_map (λ v. tree v.now) o ≡ value_bound side path es
+    → tree_depth (tree found.now) < 100
+bound_shallow side path es found o few is given =
+    let le = value_shallow 99 (omega arith) side path es (omega (arith, few)) (tree found.now) (sym given ∙ ap (option_map (λ v. tree v.now)) is) in
+    omega (arith, le)

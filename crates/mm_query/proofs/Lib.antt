@@ -1,5 +1,10 @@
+pub mod Asked
+pub mod ClassEnds
+pub mod Conditions
 pub mod Filling
+pub mod Firsts
 pub mod Levels
 pub mod Ones
+pub mod Outer
 pub mod Within
 pub mod Selected

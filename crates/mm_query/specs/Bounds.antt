@@ -1,18 +1,18 @@
 -- Between which keys those of the matching documents lie (MongoDB 2.6, index bounds).
-use Rattle.std.specs.Prelude.{◌≢◌, ℕ, negsuc, Bool, false, List, [], Option, Some, None, option_map, if◌then◌else◌}
+use Rattle.std.specs.Prelude.{◌≢◌, ℕ, negsuc, Bool, true, false, List, [], ◌∷◌, Option, Some, None, option_map, if◌then◌else◌}
 use Rattle.std.specs.Str.{bytes_eq}
 use Rattle.std.specs.declared.cmp.Ordering.{Ordering}
 use Rattle.std.specs.declared.cmp.Ordering.TheVariants.{Greater}
-use Rattle.std.specs.Ordering.{min_by_ordering}
+use Rattle.std.specs.Ordering.{is_eq, min_by_ordering}
 use Rattle.mm_query.specs.declared.operator.Operator.{Operator}
-use Rattle.mm_query.specs.declared.operator.Operator.TheVariants.{Gt, Gte, Lt, Lte, In}
+use Rattle.mm_query.specs.declared.operator.Operator.TheVariants.{Gt, Gte, Lt, Lte, In, Exists}
 use Rattle.mm_query.specs.declared.side.Side.{Side}
 use Rattle.mm_query.specs.declared.side.Side.TheVariants.{Low, High}
-use Rattle.mm_bson.specs.Tree.{Tree, min_key, int32, document, array, max_key, Elements, no_elements, element, Values, no_values, item}
+use Rattle.mm_bson.specs.Tree.{Tree, min_key, null, int32, int64, string, document, array, binary, object_id, boolean, date, timestamp, max_key, Elements, no_elements, element, Values, no_values, item}
 use Rattle.mm_bson.specs.Order.{compare}
 use Rattle.mm_keys.specs.Key.{key, HasKey}
 use Rattle.mm_keys.specs.KeyOrder.{key_compare}
-use Rattle.mm_query.specs.Form.{is_and, is_or, or, operator_of, has_operators}
+use Rattle.mm_query.specs.Form.{is_and, is_or, is_array, or, operator_of, has_operators}
 use Rattle.mm_query.specs.Match.{Matches}
 
 -- a field's name is the path, and is no $and and no $or
@@ -34,65 +34,157 @@ from_side High t u = compare u t
 abbrev pub outer : Side → Tree → Tree → Tree
 outer side t u = min_by_ordering (from_side side t u) t u
 
--- the same of a value and these
-abbrev pub outermost : Side → Tree → Values → Tree
-outermost side t no_values = t
-outermost side t (item u vs) = outermost side (outer side t u) vs
-
-abbrev pub outermost_in : Side → Tree → Option Tree
-outermost_in side (array (item t vs)) = Some (outermost side t vs)
-outermost_in side _ = None
-
--- the operand, or of $in its outermost element, before which from that side no value stands so to it
-abbrev pub limit_by : Side → Option Operator → Tree → Option Tree
-limit_by Low (Some Gt) u = Some u
-limit_by Low (Some Gte) u = Some u
-limit_by High (Some Lt) u = Some u
-limit_by High (Some Lte) u = Some u
-limit_by side (Some In) u = outermost_in side u
-limit_by side operator u = None
+-- the same of values that may not be there
+abbrev pub outer_of : Side → Option Tree → Option Tree → Option Tree
+outer_of side None other = other
+outer_of side (Some t) None = Some t
+outer_of side (Some t) (Some u) = Some (outer side t u)
 
 abbrev pub opposite : Side → Side
 opposite Low = High
 opposite High = Low
 
--- of two limits from a side the one that leaves less
+abbrev pub extreme : Side → Tree
+extreme Low = min_key
+extreme High = max_key
+
+-- ---- limits: the values of keys that a condition allows don't come before its limit, seen from a side
+
+-- of two limits the one that leaves less
 abbrev pub tighter : Side → Option Tree → Option Tree → Option Tree
-tighter side None more = more
-tighter side (Some t) None = Some t
-tighter side (Some t) (Some u) = Some (outer (opposite side) t u)
+tighter side = outer_of (opposite side)
 
--- the tightest of a limit and those that these operators give
-abbrev pub limit_among : Side → Option Tree → Elements → Option Tree
-limit_among side best no_elements = best
-limit_among side best (element name u es) = limit_among side (tighter side best (limit_by side (operator_of name) u)) es
+-- the limits between which nothing lies
+abbrev pub nothing : Side → Tree
+nothing side = extreme (opposite side)
 
-abbrev pub limit_in : Side → Option Tree → Tree → Option Tree
-limit_in side best (document es) = if has_operators es then limit_among side best es else best
-limit_in side best _ = best
+-- the least ObjectId
+abbrev pub no_id : List ℕ
+no_id = 0 ∷ 0 ∷ 0 ∷ 0 ∷ 0 ∷ 0 ∷ 0 ∷ 0 ∷ 0 ∷ 0 ∷ 0 ∷ 0 ∷ []
+
+-- No value of the class of this one is less: the least of the class. Numbers, dates and ObjectIds have none that the order knows, and then it is
+-- the greatest value before them, or for ObjectIds the least binary.
+abbrev pub least : Tree → Tree
+least min_key = min_key
+least null = null
+least (int32 z) = null
+least (int64 z) = null
+least (string s) = string []
+least (document es) = document no_elements
+least (array vs) = array no_values
+least (binary k bytes) = binary 0 []
+least (object_id bytes) = binary 0 []
+least (boolean b) = boolean false
+least (date z) = boolean true
+least (timestamp s i) = timestamp 0 0
+least max_key = max_key
+
+-- none is greater: the greatest of the class, or where it has none, the least value behind it
+abbrev pub greatest : Tree → Tree
+greatest min_key = min_key
+greatest null = null
+greatest (int32 z) = string []
+greatest (int64 z) = string []
+greatest (string s) = document no_elements
+greatest (document es) = array no_values
+greatest (array vs) = binary 0 []
+greatest (binary k bytes) = object_id no_id
+greatest (object_id bytes) = boolean false
+greatest (boolean b) = boolean true
+greatest (date z) = timestamp 0 0
+greatest (timestamp s i) = max_key
+greatest max_key = max_key
+
+abbrev pub class_end : Side → Tree → Tree
+class_end Low t = least t
+class_end High t = greatest t
+
+-- values of the operand's class that aren't before it, seen from one side: the limit from another
+abbrev pub range_limit : Side → Side → Tree → Tree
+range_limit Low Low u = u
+range_limit Low High u = greatest u
+range_limit High Low u = least u
+range_limit High High u = u
+
+-- A key has no arrays.
+abbrev pub weak_limit : Side → Side → Tree → Tree
+weak_limit from side u = if is_array u then nothing side else range_limit from side u
+
+-- none of the class is behind the class's end
+abbrev pub strict_limit : Side → Side → Tree → Tree
+strict_limit from side u = if is_eq (compare u (class_end (opposite from) u)) then nothing side else weak_limit from side u
+
+abbrev pub unless_array : Tree → Option Tree
+unless_array (array vs) = None
+unless_array t = Some t
+
+-- of the values that are no arrays the one that comes first from a side
+abbrev pub outermost : Side → Values → Option Tree
+outermost side no_values = None
+outermost side (item t vs) = outer_of side (unless_array t) (outermost side vs)
+
+abbrev pub or_nothing : Side → Option Tree → Tree
+or_nothing side None = nothing side
+or_nothing side (Some t) = t
+
+abbrev pub in_limit : Side → Tree → Option Tree
+in_limit side (array vs) = Some (or_nothing side (outermost side vs))
+in_limit side _ = None
+
+-- a missing value is null in the key
+abbrev pub exists_limit : Tree → Option Tree
+exists_limit (boolean false) = Some null
+exists_limit _ = None
+
+-- the limit that an operator gives
+abbrev pub limit_by : Side → Option Operator → Tree → Option Tree
+limit_by side (Some Gt) u = Some (strict_limit Low side u)
+limit_by side (Some Gte) u = Some (weak_limit Low side u)
+limit_by side (Some Lt) u = Some (strict_limit High side u)
+limit_by side (Some Lte) u = Some (weak_limit High side u)
+limit_by side (Some In) u = in_limit side u
+limit_by side (Some Exists) u = exists_limit u
+limit_by side operator u = None
+
+-- of operators, which all hold, the tightest
+abbrev pub limit_among : Side → Elements → Option Tree
+limit_among side no_elements = None
+limit_among side (element name u es) = tighter side (limit_by side (operator_of name) u) (limit_among side es)
+
+-- of a condition: operators, or equality
+abbrev pub limit_in : Side → Tree → Option Tree
+limit_in side (document es) = if has_operators es then limit_among side es else Some (document es)
+limit_in side (array vs) = Some (nothing side)
+limit_in side t = Some t
+
+-- of all that a filter asks of the value at a path, also by $and, the tightest
+abbrev mutual
+  pub limit_at : Side → List ℕ → Elements → Option Tree
+  limit_at side path no_elements = None
+  limit_at side path (element name t es) = tighter side (if is_and name then limit_inside side path t else (if is_at path name then limit_in side t else None)) (limit_at side path es)
+
+  pub limit_inside : Side → List ℕ → Tree → Option Tree
+  limit_inside side path (document es) = limit_at side path es
+  limit_inside side path (array vs) = limit_each side path vs
+  limit_inside side path _ = None
+
+  pub limit_each : Side → List ℕ → Values → Option Tree
+  limit_each side path no_values = None
+  limit_each side path (item t vs) = tighter side (limit_inside side path t) (limit_each side path vs)
 
 -- the value of the first equality at a path, at the top of a filter
 abbrev pub first_equal : List ℕ → Elements → Option Tree
 first_equal path no_elements = None
 first_equal path (element name t es) = or (if is_at path name then equal_to t else None) (first_equal path es)
 
--- the tightest of a limit and those at a path, at the top of a filter
-abbrev pub limit_at : Side → List ℕ → Option Tree → Elements → Option Tree
-limit_at side path best no_elements = best
-limit_at side path best (element name t es) = limit_at side path (if is_at path name then limit_in side best t else best) es
-
 -- between which values those at a path lie: an equality goes before a limit
 abbrev pub value_bound : Side → List ℕ → Elements → Option Tree
-value_bound side path filter = or (first_equal path filter) (limit_at side path None filter)
+value_bound side path filter = or (first_equal path filter) (limit_at side path filter)
 
 -- by -1 the greater values come first
 abbrev pub turned : Tree → Side → Side
 turned (int32 (negsuc z)) side = opposite side
 turned sign side = side
-
-abbrev pub extreme : Side → Tree
-extreme Low = min_key
-extreme High = max_key
 
 -- for each place of a specification the first or the last value of all, in the order of the place
 abbrev pub extremes : Side → Elements → Elements

@@ -2,3 +2,4 @@ pub mod Bounds
 pub mod Form
 pub mod Match
 pub mod Selection
+pub mod TreeCode

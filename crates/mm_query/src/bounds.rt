@@ -3,14 +3,12 @@
 ghost use Rattle.std.specs.Prelude.{◌≡◌, ◌<◌, [], Option, None, IfOk, OnOk, option_map, if◌then◌else◌};
 ghost use Rattle.mm_bson.specs.Tree.{tree_depth, append, no_elements, element};
 ghost use Rattle.mm_bson.specs.View.{tree, elements_of};
-ghost use Rattle.mm_query.specs.Form.{operator_of as operator_by};
-ghost use Rattle.mm_query.specs.Bounds.{is_at as is_at_path, equal_to as equal_to_in, limit_by, limit_among as limit_among_in, limit_in as limit_in_condition, first_equal as first_equal_at, limit_at as limit_at_path, value_bound as value_bound_at, turned as turned_by, extreme as extreme_of, extremes, bound};
+ghost use Rattle.mm_query.specs.Bounds.{is_at as is_at_path, equal_to as equal_to_in, first_equal as first_equal_at, value_bound as value_bound_at, turned as turned_by, extreme as extreme_of, extremes, bound};
 
 use crate::condition::has_operators;
-use crate::matching::{is_and, is_or};
+use crate::ends::Ends;
+use crate::limit::{is_at, limit_at};
 use crate::memory::NoMemory;
-use crate::operator::{Operator, operator_of};
-use crate::outermost::{outermost_in, tighter};
 use crate::side::Side;
 use mm_bson::{Doc, Element, Text, Value};
 use mm_keys::KeySpec;
@@ -24,15 +22,6 @@ pub struct Bounds {
     pub high: Option<Doc>,
 }
 
-fn is_at(path: &[u8], name: &[u8]) -> bool
-    ensures { result ≡ is_at_path path.now name.now }
-{
-    if is_and(name) || is_or(name) {
-        return false;
-    }
-    name == path
-}
-
 fn equal_to(condition: &Value) -> Option<&Value>
     ensures { option_map (λ t. tree t.now) result ≡ equal_to_in (tree condition.now) }
 {
@@ -40,45 +29,6 @@ fn equal_to(condition: &Value) -> Option<&Value>
         Value::Array(_) => None,
         Value::Document(doc) if has_operators(doc.elements()) => None,
         _ => Some(condition),
-    }
-}
-
-fn limit_of(side: Side, field: &Element) -> Option<&Value>
-    ensures { option_map (λ t. tree t.now) result ≡ limit_by side (operator_by field.now.name) (tree field.now.value) }
-{
-    match (side, operator_of(field.name.as_bytes())) {
-        (Side::Low, Some(Operator::Gt | Operator::Gte)) => Some(&field.value),
-        (Side::High, Some(Operator::Lt | Operator::Lte)) => Some(&field.value),
-        (_, Some(Operator::In)) => outermost_in(side, &field.value),
-        _ => None,
-    }
-}
-
-/// The tightest of a limit and those that operators give.
-fn limit_among<'a>(
-    side: Side,
-    limit: Option<&'a Value>,
-    operators: &'a [Element],
-) -> Option<&'a Value>
-    ensures { option_map (λ t. tree t.now) result ≡ limit_among_in side (option_map (λ t. tree t.now) limit.entry) (elements_of operators.now) }
-{
-    let mut best = limit;
-    let mut rest = operators;
-    while let [first, others @ ..] = rest {
-        best = tighter(side, best, limit_of(side, first));
-        rest = others;
-    }
-    best
-}
-
-fn limit_in<'a>(side: Side, limit: Option<&'a Value>, condition: &'a Value) -> Option<&'a Value>
-    ensures { option_map (λ t. tree t.now) result ≡ limit_in_condition side (option_map (λ t. tree t.now) limit.entry) (tree condition.now) }
-{
-    match condition {
-        Value::Document(doc) if has_operators(doc.elements()) => {
-            limit_among(side, limit, doc.elements())
-        }
-        _ => limit,
     }
 }
 
@@ -106,41 +56,18 @@ fn first_equal<'a>(path: &[u8], fields: &'a [Element]) -> Option<&'a Value>
     None
 }
 
-fn with_field<'a>(
+/// The bound of the values at a path: an equality goes before a limit.
+fn value_bound<'a>(
     side: Side,
     path: &[u8],
-    limit: Option<&'a Value>,
-    field: &'a Element,
+    fields: &'a [Element],
+    ends: &'a Ends,
 ) -> Option<&'a Value>
-    ensures { option_map (λ t. tree t.now) result ≡ (if is_at_path path.now field.now.name then limit_in_condition side (option_map (λ t. tree t.now) limit.entry) (tree field.now.value) else option_map (λ t. tree t.now) limit.entry) }
-{
-    if is_at(path, field.name.as_bytes()) {
-        limit_in(side, limit, &field.value)
-    } else {
-        limit
-    }
-}
-
-/// The tightest limit at a path.
-fn limit_at<'a>(side: Side, path: &[u8], fields: &'a [Element]) -> Option<&'a Value>
-    ensures { option_map (λ t. tree t.now) result ≡ limit_at_path side path.now None (elements_of fields.now) }
-{
-    let mut best = None;
-    let mut rest = fields;
-    while let [first, others @ ..] = rest {
-        best = with_field(side, path, best, first);
-        rest = others;
-    }
-    best
-}
-
-/// The bound of the values at a path: an equality goes before a limit.
-fn value_bound<'a>(side: Side, path: &[u8], fields: &'a [Element]) -> Option<&'a Value>
     ensures { option_map (λ t. tree t.now) result ≡ value_bound_at side path.now (elements_of fields.now) }
 {
     match first_equal(path, fields) {
         Some(value) => Some(value),
-        None => limit_at(side, path, fields),
+        None => limit_at(side, path, fields, ends),
     }
 }
 
@@ -201,6 +128,7 @@ pub(crate) fn key_bound(
     side: Side,
     filter: &Doc,
     spec: &KeySpec,
+    ends: &Ends,
 ) -> Result<Option<Doc>, NoMemory>
     ensures { IfOk result (λ k. k ≡ bound side filter.now spec.now) }
 {
@@ -208,7 +136,7 @@ pub(crate) fn key_bound(
         [] => Ok(None),
         [first, others @ ..] => {
             let values = turned(&first.value, side);
-            match value_bound(values, first.name.as_bytes(), filter.elements()) {
+            match value_bound(values, first.name.as_bytes(), filter.elements(), ends) {
                 Some(value) => {
                     let key = filled(alloc, side, value, others)?;
                     Ok(Some(key))

@@ -8,6 +8,7 @@ ghost use Rattle.mm_query.specs.Form.{wrong_filter as wrong_filter_in};
 ghost use Rattle.mm_query.specs.Match.{Matches};
 
 use crate::bounds::{Bounds, key_bound};
+use crate::ends::Ends;
 use crate::fault::FilterFault;
 use crate::form::wrong_filter;
 use crate::matching::fields_match;
@@ -61,17 +62,29 @@ impl Filter {
     /// Between which keys by a specification those of the matching documents
     /// lie, where they have one. An equality on its first path, with a value
     /// that isn't an array, gives both bounds: the value and, for each further
-    /// place, the first and the last value in its order. Else `$gt` or `$gte`,
-    /// and `$lt` or `$lte` on the first path give one each, and `$in` both: its
-    /// least and its greatest element. The tightest of each side counts.
-    /// `NoMemory` also where a bound would have 2^31 bytes or more.
+    /// place, the first and the last value in its order. Else each condition on
+    /// that path gives them, also inside `$and`, and the tightest of each side
+    /// counts: `$gt`, `$gte`, `$lt` and `$lte` the operand on one side and the
+    /// end of its class on the other, `$in` its least and its greatest element,
+    /// `$exists` null where none is to be there. What no key can meet gives
+    /// bounds between which nothing lies. `NoMemory` also where a bound would
+    /// have 2^31 bytes or more.
     pub fn bounds(&self, alloc: Global, spec: &KeySpec) -> Result<Bounds, NoMemory>
         ensures between { IfOk result (λ b. Bound self.now spec.now b.low b.high) }
         ensures equality { (t : Tree) → first_equality spec.now self.now ≡ Some t → IfOk result (λ b. (b.low ≡ Some (key_from Low t spec.now)) × (b.high ≡ Some (key_from High t spec.now))) }
         ensures exact { IfOk result (λ b. (b.low ≡ bound Low self.now spec.now) × (b.high ≡ bound High self.now spec.now)) }
     {
-        let low = key_bound(alloc, Side::Low, &self.document, spec)?;
-        let high = key_bound(alloc, Side::High, &self.document, spec)?;
+        let ends = Ends::new(alloc)?;
+        self.bounds_with(alloc, spec, &ends)
+    }
+
+    fn bounds_with(&self, alloc: Global, spec: &KeySpec, ends: &Ends) -> Result<Bounds, NoMemory>
+        ensures between { IfOk result (λ b. Bound self.now spec.now b.low b.high) }
+        ensures equality { (t : Tree) → first_equality spec.now self.now ≡ Some t → IfOk result (λ b. (b.low ≡ Some (key_from Low t spec.now)) × (b.high ≡ Some (key_from High t spec.now))) }
+        ensures exact { IfOk result (λ b. (b.low ≡ bound Low self.now spec.now) × (b.high ≡ bound High self.now spec.now)) }
+    {
+        let low = key_bound(alloc, Side::Low, &self.document, spec, ends)?;
+        let high = key_bound(alloc, Side::High, &self.document, spec, ends)?;
         Ok(Bounds { low, high })
     }
 }

@@ -16,10 +16,12 @@
 
 mod bounds;
 mod condition;
+mod ends;
 mod fault;
 mod filter;
 mod form;
 mod laws;
+mod limit;
 mod matching;
 mod memory;
 mod operator;

@@ -2,7 +2,7 @@
 
 ghost use Rattle.std.specs.Prelude.{◌≡◌, option_map};
 ghost use Rattle.mm_bson.specs.View.{tree, values_of};
-ghost use Rattle.mm_query.specs.Bounds.{from_side as from_side_by, outer as outer_of, outermost as outermost_of, outermost_in as outermost_inside, tighter as tighter_of};
+ghost use Rattle.mm_query.specs.Bounds.{from_side as from_side_by, outer as outer_by, outer_of as outer_of_two, outermost as outermost_among, unless_array as unless_array_of, tighter as tighter_of};
 
 use crate::side::Side;
 use mm_bson::{Value, cmp};
@@ -19,7 +19,7 @@ fn from_side(side: Side, value: &Value, other: &Value) -> Ordering
 }
 
 fn outer<'a>(side: Side, value: &'a Value, other: &'a Value) -> &'a Value
-    ensures { tree result.now ≡ outer_of side (tree value.now) (tree other.now) }
+    ensures { tree result.now ≡ outer_by side (tree value.now) (tree other.now) }
 {
     match from_side(side, value, other) {
         Ordering::Greater => other,
@@ -27,29 +27,14 @@ fn outer<'a>(side: Side, value: &'a Value, other: &'a Value) -> &'a Value
     }
 }
 
-fn outermost<'a>(side: Side, value: &'a Value, others: &'a [Value]) -> &'a Value
-    ensures { tree result.now ≡ outermost_of side (tree value.now) (values_of others.now) }
+/// Of two values the one that comes first from a side.
+fn outer_of<'a>(side: Side, value: Option<&'a Value>, other: Option<&'a Value>) -> Option<&'a Value>
+    ensures { option_map (λ t. tree t.now) result ≡ outer_of_two side (option_map (λ t. tree t.now) value.entry) (option_map (λ t. tree t.now) other.entry) }
 {
-    let mut end = value;
-    let mut rest = others;
-    while let [first, further @ ..] = rest {
-        end = outer(side, end, first);
-        rest = further;
-    }
-    end
-}
-
-/// The least element of an array, or from High the greatest; of equal ones the
-/// first.
-pub(crate) fn outermost_in(side: Side, array: &Value) -> Option<&Value>
-    ensures { option_map (λ t. tree t.now) result ≡ outermost_inside side (tree array.now) }
-{
-    match array {
-        Value::Array(list) => match list.values() {
-            [] => None,
-            [first, others @ ..] => Some(outermost(side, first, others)),
-        },
-        _ => None,
+    match (value, other) {
+        (None, _) => other,
+        (_, None) => value,
+        (Some(first), Some(second)) => Some(outer(side, first, second)),
     }
 }
 
@@ -61,9 +46,28 @@ pub(crate) fn tighter<'a>(
 ) -> Option<&'a Value>
     ensures { option_map (λ t. tree t.now) result ≡ tighter_of side (option_map (λ t. tree t.now) best.entry) (option_map (λ t. tree t.now) more.entry) }
 {
-    match (best, more) {
-        (None, _) => more,
-        (_, None) => best,
-        (Some(value), Some(other)) => Some(outer(side.opposite(), value, other)),
+    outer_of(side.opposite(), best, more)
+}
+
+fn unless_array(value: &Value) -> Option<&Value>
+    ensures { option_map (λ t. tree t.now) result ≡ unless_array_of (tree value.now) }
+{
+    match value {
+        Value::Array(_) => None,
+        _ => Some(value),
     }
+}
+
+/// The least of the values that are no arrays, or from High the greatest; of
+/// equal ones the first.
+pub(crate) fn outermost(side: Side, values: &[Value]) -> Option<&Value>
+    ensures { option_map (λ t. tree t.now) result ≡ outermost_among side (values_of values.now) }
+{
+    let mut end = None;
+    let mut rest = values;
+    while let [first, further @ ..] = rest {
+        end = outer_of(side, end, unless_array(first));
+        rest = further;
+    }
+    end
 }
