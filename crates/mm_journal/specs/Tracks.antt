@@ -4,7 +4,6 @@ use Rattle.mm_outside.specs.Told.{Syncs}
 use Rattle.mm_outside.specs.Ask.{Ask}
 use Rattle.mm_section.specs.declared.section.Section.{Section}
 use Rattle.mm_jfiles.specs.Names.{journal_name}
-
 use Rattle.mm_jfiles.specs.Files.{Files, header_of, last_number, ready, append_asks}
 use Rattle.mm_crash.specs.Journal.{Format}
 use Rattle.mm_crash.specs.Recovered.{Names}

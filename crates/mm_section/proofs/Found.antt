@@ -28,8 +28,8 @@ pub reads_both : (es ds : List Entry) (n m : ℕ) (bytes : List ℕ) → Reads e
 reads_both es ds n m bytes r s = record {
   inside = omega (arith, r.inside, s.inside, length-drop n bytes);
   is =
-    r.is ∙ ap (λ (l : List ℕ). entries_bytes es ++ l) s.is ∙ sym (append_assoc (entries_bytes es) (entries_bytes ds) (drop m (drop n bytes)))
-    ∙ ap (λ (l : List ℕ). l ++ drop m (drop n bytes)) (sym (entries-append es ds)) ∙ ap (λ (l : List ℕ). entries_bytes (es ++ ds) ++ l) (drop-drop m n bytes);
+      r.is ∙ ap (λ (l : List ℕ). entries_bytes es ++ l) s.is ∙ sym (append_assoc (entries_bytes es) (entries_bytes ds) (drop m (drop n bytes)))
+      ∙ ap (λ (l : List ℕ). l ++ drop m (drop n bytes)) (sym (entries-append es ds)) ∙ ap (λ (l : List ℕ). entries_bytes (es ++ ds) ++ l) (drop-drop m n bytes);
   can = can_append es ds r.can s.can;
 }
 
@@ -120,10 +120,10 @@ piece_found bytes h there are head is =
     record {
       inside = omega (arith, len, head.inside);
       is =
-        sym (take-append-drop 12 bytes) ∙ ap (λ (l : List ℕ). l ++ drop 12 bytes) (sym spelled)
-        ∙ ap (λ (l : List ℕ). entry_head_bytes (record { len = length there; ofs = h.ofs; file = h.file }) ++ l) (sym (take-append-drop h.len (drop 12 bytes)) ∙ ap (λ (l : List ℕ). l ++ drop h.len (drop 12 bytes)) (sym is) ∙ ap (λ (l : List ℕ). there ++ l) rest)
-        ∙ sym (append_assoc (entry_head_bytes (record { len = length there; ofs = h.ofs; file = h.file })) there (drop (length there + 12) bytes))
-        ∙ ap (λ (l : List ℕ). l ++ drop (length there + 12) bytes) (sym (append-nil (entry_bytes e)));
+          sym (take-append-drop 12 bytes) ∙ ap (λ (l : List ℕ). l ++ drop 12 bytes) (sym spelled)
+          ∙ ap (λ (l : List ℕ). entry_head_bytes (record { len = length there; ofs = h.ofs; file = h.file }) ++ l) (sym (take-append-drop h.len (drop 12 bytes)) ∙ ap (λ (l : List ℕ). l ++ drop h.len (drop 12 bytes)) (sym is) ∙ ap (λ (l : List ℕ). there ++ l) rest)
+          ∙ sym (append_assoc (entry_head_bytes (record { len = length there; ofs = h.ofs; file = h.file })) there (drop (length there + 12) bytes))
+          ∙ ap (λ (l : List ℕ). l ++ drop (length there + 12) bytes) (sym (append-nil (entry_bytes e)));
       can = (((file, ofs), (omega (arith, len, head.some), omega (arith, len, head.short))), tt);
     }
 
@@ -171,10 +171,10 @@ name_found bytes name n long are word_there found inside is =
     record {
       inside = omega (arith, len, inside, length-drop 4 bytes);
       is =
-        sym (take-append-drop 4 bytes) ∙ ap (λ (l : List ℕ). l ++ rest) front
-        ∙ ap (λ (l : List ℕ). w ++ l) (before.is ∙ ap (λ (l : List ℕ). l ++ 0 ∷ drop (n + 1) rest) (sym is) ∙ ap (λ (l : List ℕ). name ++ 0 ∷ l) behind ∙ sym (append_assoc name (0 ∷ []) (drop (length name + 5) bytes)))
-        ∙ sym (append_assoc w (name ++ 0 ∷ []) (drop (length name + 5) bytes))
-        ∙ ap (λ (l : List ℕ). l ++ drop (length name + 5) bytes) (sym (append-nil (w ++ (name ++ 0 ∷ []))));
+          sym (take-append-drop 4 bytes) ∙ ap (λ (l : List ℕ). l ++ rest) front
+          ∙ ap (λ (l : List ℕ). w ++ l) (before.is ∙ ap (λ (l : List ℕ). l ++ 0 ∷ drop (n + 1) rest) (sym is) ∙ ap (λ (l : List ℕ). name ++ 0 ∷ l) behind ∙ sym (append_assoc name (0 ∷ []) (drop (length name + 5) bytes)))
+          ∙ sym (append_assoc w (name ++ 0 ∷ []) (drop (length name + 5) bytes))
+          ∙ ap (λ (l : List ℕ). l ++ drop (length name + 5) bytes) (sym (append-nil (w ++ (name ++ 0 ∷ []))));
       can = (subst HasNoZero (sym is) before.none, tt);
     }
 
@@ -343,18 +343,18 @@ pub so_far_more : (parts : List Part) (at : ℕ) (bytes : List ℕ) (p : Part) (
 so_far_more parts at bytes p n so lt is_p reads = record {
   inside = omega (arith, reads.reads.inside, length-drop at bytes, lt);
   is =
-    so.is ∙ ap (λ (l : List ℕ). parts_bytes parts ++ l) reads.reads.is ∙ sym (append_assoc (parts_bytes parts) (entries_bytes (part_entries p)) (drop n (drop at bytes)))
-    ∙ ap (λ (l : List ℕ). l ++ drop n (drop at bytes)) (sym (parts_more parts p)) ∙ ap (λ (l : List ℕ). parts_bytes (parts ++ p ∷ []) ++ l) (drop-drop n at bytes);
+      so.is ∙ ap (λ (l : List ℕ). parts_bytes parts ++ l) reads.reads.is ∙ sym (append_assoc (parts_bytes parts) (entries_bytes (part_entries p)) (drop n (drop at bytes)))
+      ∙ ap (λ (l : List ℕ). l ++ drop n (drop at bytes)) (sym (parts_more parts p)) ∙ ap (λ (l : List ℕ). parts_bytes (parts ++ p ∷ []) ++ l) (drop-drop n at bytes);
   each = are_append parts (p ∷ []) so.each (is_p, tt);
   only = λ ps are is.
-    let old = so.only ps are is in
-    let s = splits (drop at bytes) old.0 (omega (arith, length-drop at bytes, lt)) old.1 old.3 in
-    let one = part_only p n (drop at bytes) s.first s.others reads s.is_first s.are s.spelled in (
-      s.others,
-      s.are,
-      old.2 ∙ ap (λ (l : List Part). parts ++ l) (s.is ∙ ap (λ (x : Part). x ∷ s.others) one.0) ∙ sym (assoc_parts parts (p ∷ []) s.others),
-      sym (drop-drop n at bytes) ∙ one.1,
-    );
+      let old = so.only ps are is in
+      let s = splits (drop at bytes) old.0 (omega (arith, length-drop at bytes, lt)) old.1 old.3 in
+      let one = part_only p n (drop at bytes) s.first s.others reads s.is_first s.are s.spelled in (
+        s.others,
+        s.are,
+        old.2 ∙ ap (λ (l : List Part). parts ++ l) (s.is ∙ ap (λ (x : Part). x ∷ s.others) one.0) ∙ sym (assoc_parts parts (p ∷ []) s.others),
+        sym (drop-drop n at bytes) ∙ one.1,
+      );
 }
 
 pub no_more_parts : (parts : List Part) (at : ℕ) (bytes : List ℕ) → SoFar parts at bytes → at < length bytes → HasNoPart (drop at bytes) → (ps : List Part) → AreSpelled ps bytes → ⊥

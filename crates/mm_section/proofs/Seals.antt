@@ -120,9 +120,9 @@ sealed_only id number entries rest input h fits small short is read =
         };
       };
       entries_there =
-        ap (λ n. take n (drop 20 input)) (omega (arith, len))
-        ∙ ap (take (length entries)) (ap (drop 20) whole_a ∙ drop_at a (entries ++ (foot ++ (pad_bytes ++ rest))) 20 alen)
-        ∙ take_at entries (foot ++ (pad_bytes ++ rest)) (length entries) refl;
+          ap (λ n. take n (drop 20 input)) (omega (arith, len))
+          ∙ ap (take (length entries)) (ap (drop 20) whole_a ∙ drop_at a (entries ++ (foot ++ (pad_bytes ++ rest))) 20 alen)
+          ∙ take_at entries (foot ++ (pad_bytes ++ rest)) (length entries) refl;
     }
   where
     possible_if : (id n len : ℕ) → n < 2 ^ 64 - 1 → 52 ≤ len → is_possible id (record { len = len; number = n; file_id = id }) ≡ true

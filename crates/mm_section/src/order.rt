@@ -28,9 +28,7 @@ fn are_letters(bytes: &[u8]) -> bool
 fn is_db_name(name: &[u8]) -> bool
     ensures { result ≡ is_db_name name.now }
 {
-    !name.is_empty()
-        && name.len() <= MAX_DB_NAME_LEN
-        && are_letters(name)
+    !name.is_empty() && name.len() <= MAX_DB_NAME_LEN && are_letters(name)
 }
 
 fn may_be_made(made: &Made) -> bool
