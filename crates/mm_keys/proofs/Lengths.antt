@@ -1,10 +1,10 @@
 -- How long keys are, and the values in them.
-use Rattle.std.proofs.Common.{◌≡◌, ℕ, suc, ◌+◌, ◌≤◌, Bool, true, false, cond, List, [], ◌∷◌, ◌++◌, length, Option, Some, None, inl, inr, refl, sym, ap, subst, ◌∙◌, arith}
+use Rattle.std.proofs.Common.{◌≡◌, ℕ, suc, ◌+◌, ◌-◌, ◌<◌, ◌≤◌, get_or, Bool, true, false, cond, List, [], ◌∷◌, ◌++◌, length, Option, Some, None, inl, inr, refl, sym, ap, subst, ◌∙◌, arith}
 use Rattle.std.specs.Prelude.{option_and_then, IsTrue, ◌↔◌}
 use Rattle.std.specs.Str.{bytes_eq}
-use Rattle.std.proofs.lemmas.List.{length-append}
+use Rattle.std.proofs.lemmas.List.{length-append, take_all}
 use Rattle.mm_bson.specs.declared.doc.Element.{Element}
-use Rattle.mm_bson.specs.View.{elements_of}
+use Rattle.mm_bson.specs.View.{tree, elements_of}
 use Rattle.mm_bson.specs.Tree.{Tree, document, Elements, no_elements, element, append}
 use Rattle.mm_bson.specs.Path.{names, find, onward, value_at, value_at_path}
 use Rattle.mm_bson.specs.Spelling.{spelling, framed, elements_spelling, value_spelling, element_len}
@@ -70,6 +70,20 @@ spelling_len-append a b = omega (arith, spelling_len (append a b), spelling_len 
 pub fields_are : (xs : List Element) → fields (elements_of xs) ≡ length xs
 fields_are [] = refl
 fields_are (x ∷ xs) = ap suc (fields_are xs)
+
+-- the fields of a list that is not empty are its first and the ones behind it
+pub first_is : (first : Element) (xs : List Element) → 0 < length xs → first ≡ get_or xs 0 first → elements_of xs ≡ element first.name (tree first.value) (elements_of (others xs))
+first_is first [] lt e = absurd (omega arith)
+first_is first (x ∷ xs) lt e = rw (others_are x xs) (ap (λ (y : Element). element y.name (tree y.value) (elements_of xs)) (sym e))
+  where
+    others_are : (x : Element) (xs : List Element) → others (x ∷ xs) ≡ xs
+    others_are x xs =
+        let n : suc (length xs) - 1 ≡ length xs = omega arith in
+        rw n (take_all (length xs) xs (omega arith))
+
+pub none_left : (xs : List Element) → length xs < 1 → elements_of xs ≡ no_elements
+none_left [] lt = refl
+none_left (x ∷ xs) lt = absurd (omega arith)
 
 -- one more field behind those of a key
 module _ (d done : Elements) (spec : Elements) (all : Elements) (so_far : append done (key d spec) ≡ all) where
