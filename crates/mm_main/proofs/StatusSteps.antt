@@ -1,5 +1,5 @@
 -- A status that is none of some isn't among them.
-use Rattle.std.proofs.Common.{◌≡◌, ◌⊎◌, inl, inr, List, [], ◌∷◌}
+use Rattle.std.proofs.Common.{◌≡◌, inl, inr, [], ◌∷◌}
 use Rattle.mm_main.specs.declared.status.Status.{Status}
 use Rattle.mm_main.specs.declared.status.Status.TheVariants.{Done, DiskFault, SinkFault, NoMemory, FilesRefused}
 use Rattle.mm_main.specs.Top.{IsAmong}

@@ -12,7 +12,6 @@ use Rattle.mm_outside.proofs.NewFile.{place_of_file_written, place_of_other_file
 use Rattle.mm_bson.specs.Tree.{Elements}
 use Rattle.mm_main.specs.declared.play.End.{End}
 use Rattle.mm_main.specs.declared.play.End.TheVariants.{Refused, Present, Played, SourceFailed, DiskFailed, NoMemory}
-use Rattle.mm_main.specs.declared.status.Status.{Status}
 use Rattle.mm_main.specs.declared.status.Status.TheVariants as status
 use Rattle.mm_main.specs.Ends.{IfComing, IsAnyScript, PlayEnds, IsUnasked, end_text, end_status}
 use Rattle.mm_main.specs.Contents.{full_name, doc_lines}

@@ -1,10 +1,9 @@
 -- Pieces laid over images that agree but at some places.
-use Rattle.std.proofs.Common.{◌≡◌, inl, inr, ℕ, zero, suc, ◌+◌, ◌-◌, ◌<◌, ◌≤◌, min, max, Bool, true, false, cond, List, [], ◌∷◌, ◌++◌, length, get_or, take, drop, Option, Some, None, refl, sym, ◌∙◌, ap, subst, arith}
-use Rattle.std.proofs.lemmas.Grind.{common_steps}
-use Rattle.std.proofs.lemmas.Bool.{cases_lt, cases_Bool, or_from, both_ways, eqb-true, eqb-false, ne_eqb, eq-eqb, cond_both}
+use Rattle.std.proofs.Common.{◌≡◌, inl, inr, ℕ, ◌+◌, ◌<◌, ◌≤◌, min, max, Bool, true, false, cond, List, [], ◌∷◌, length, drop, Option, Some, None, refl, sym, ◌∙◌, ap, subst, arith}
+use Rattle.std.proofs.lemmas.Bool.{cases_Bool, or_from, both_ways, eqb-true, eqb-false, ne_eqb, eq-eqb, cond_both}
 use Rattle.std.proofs.lemmas.Bool.Decides.{nat_tests}
-use Rattle.std.proofs.lemmas.List.{get_or-take, get_or-drop, get_or-append_right, get_or_append_left, length-take, length-append, length-drop, ext_get_or, append_assoc, drop_at, take_at}
-use Rattle.std.specs.Prelude.{replicate, nat_le, nat_lt, ◌==◌, ◌&&◌, ◌||◌, unwrap_or}
+use Rattle.std.proofs.lemmas.List.{length-take, length-drop, ext_get_or}
+use Rattle.std.specs.Prelude.{nat_le, nat_lt, ◌==◌, ◌&&◌, ◌||◌, unwrap_or}
 use Rattle.std.specs.Cmp.{nat_cmp_total, unsigned_tied}
 use Rattle.std.specs.FinMap.{get, get-insert, same_map, nat_cmp-IsAntisymmetric}
 use Rattle.mm_bytes.specs.Files.{overwritten, read_from}

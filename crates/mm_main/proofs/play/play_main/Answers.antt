@@ -1,4 +1,3 @@
-use Rattle.std.proofs.Common.{sym, ◌∙◌, subst}
 use Rattle.mm_main.proofs.TopSteps.{plays_said, plays_unsaid, unasked_by, unsaid_asks, adds_by}
 use Rattle.mm_main.proofs.play.play_main.Goals as goal
 

@@ -1,4 +1,4 @@
-use Rattle.std.proofs.Common.{refl, sym, ◌∙◌}
+use Rattle.std.proofs.Common.{sym, ◌∙◌}
 use Rattle.std.proofs.lemmas.Bool.{true≢false}
 use Rattle.mm_main.proofs.DumpSteps.{dump_asks}
 use Rattle.mm_main.proofs.tool.tool_main.Goals as goal
