@@ -15,4 +15,6 @@ pub mod Owning
 pub mod Rewrites
 pub mod RoomLaws
 pub mod FreedWhole
+pub mod WalkLaws
+pub mod NextLaws
 pub mod StoreLaws

@@ -4,3 +4,4 @@ pub mod Stands
 pub mod Freeing
 pub mod Passing
 pub mod Map
+pub mod Walking

@@ -6,7 +6,8 @@
 //!   functions to lists.
 //! - `live_at` (specs/Map) is the map: the room of each live record of a namespace. A payload is the front of a room.
 //! - `free` takes one pair out of the map; the block heads the list of its length. `write` and `write_inside` change one room; `write`
-//!   answers false exactly where the payload is too long, and then nothing changes. `payload` gives the whole room.
+//!   answers false exactly where the payload is too long, and then nothing changes. `payload` gives the whole room; `first` and `next`
+//!   go through the map in the order of the extents and of their chains.
 //! - Each of these says that the files stand again, and that the maps of all namespaces are as they were at every other place.
 //! - What a call declares is bounded by its clause `weight`: `write` and `write_inside` declare the bytes that they write alone, `free` 912.
 //!
@@ -18,5 +19,6 @@ mod links;
 mod nodes;
 mod rooms;
 mod store;
+mod walking;
 
 pub use store::RecordStore;

@@ -3,16 +3,19 @@
 ghost use Rattle.std.specs.Prelude.{◌≡◌, ℕ, ◌+◌, ◌≤◌, ◌++◌, ◌↔◌, List, length, IfOk, OnOk, OnErr, IsTrue, true, false};
 ghost use Rattle.mm_base.specs.Bytes.{overwritten};
 ghost use Rattle.mm_nstable.specs.Nodes.{SameNames};
-ghost use Rattle.mm_links.specs.Links.{Place};
-ghost use Rattle.mm_extents.specs.Changes.{DeclaresAtMost};
+ghost use Rattle.std.specs.Option.{option_map};
+ghost use Rattle.mm_links.specs.Links.{Place, first_of, next_in};
+ghost use Rattle.mm_extents.specs.Changes.{DeclaresAtMost, loc};
 ghost use Rattle.mm_records.specs.Shape.{Shape};
-ghost use Rattle.mm_records.specs.Stands.{Stands, ns_in};
+ghost use Rattle.mm_records.specs.Stands.{Stands, IsNode, ns_in, walk};
 ghost use Rattle.mm_records.specs.Map.{HasRecord, IsFreed, IsRewritten, name_at};
 
 use crate::freeing::free_at;
 use crate::rooms::{overwrite_room, push_bytes, room_len};
+use crate::walking::{first_from, next_of};
 use mm_base::{DiskLoc, NoMemory};
 use mm_extents::spot_of;
+use mm_nstable::details;
 use mm_views::Draft;
 
 /// The records of the namespace of a node.
@@ -38,6 +41,24 @@ impl RecordStore {
         ensures weight { DeclaresAtMost 912 draft.old draft.new }
     {
         free_at(draft, self.node, spot_of(at))
+    }
+
+    /// The first record of the namespace, in the order of its extents and of their chains.
+    pub fn first(&self, draft: &Draft) -> Option<DiskLoc>
+        requires { (free : List ℕ) × ((s : Shape) × (Stands draft.now.image free s × IsNode draft.now.image free self.now.node)) }
+        ensures { (free : List ℕ) (s : Shape) → Stands draft.now.image free s → IsNode draft.now.image free self.now.node
+            → result ≡ option_map loc (first_of (walk s (name_at draft.now.image self.now.node))) }
+    {
+        first_from(draft, details(draft, self.node).first_extent)
+    }
+
+    /// The record behind another in that order.
+    pub fn next(&self, draft: &Draft, at: DiskLoc) -> Option<DiskLoc>
+        requires { (free : List ℕ) × ((s : Shape) × ((p : Place) × ((room : List ℕ) × HasRecord draft.now.image free s self.now.node p at room))) }
+        ensures { (free : List ℕ) (s : Shape) (p : Place) (room : List ℕ) → HasRecord draft.now.image free s self.now.node p at room
+            → result ≡ option_map loc (next_in (walk s (name_at draft.now.image self.now.node)) p) }
+    {
+        next_of(draft, self.node, spot_of(at))
     }
 
     /// Puts the whole room of a record behind what a list holds.
