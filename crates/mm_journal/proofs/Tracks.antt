@@ -54,10 +54,10 @@ module _ (fmt : Format) (at : Names) (speaks : Speaks fmt at) (f : Files) (c : C
   next_is = omega (arith, tr.first, counted)
 
   -- a new file
-  pub begins_so : begin_asks f ≡ new_file_asks (at.journal (c.first + length c.runs)) (fmt.header (c.first + length c.runs))
-  begins_so =
+  pub begins_so : c.first + length c.runs < 2 ^ 32 → begin_asks f ≡ new_file_asks (at.journal (c.first + length c.runs)) (fmt.header (c.first + length c.runs))
+  begins_so room =
       ap (λ n. new_file_asks (journal_name n) (Rattle.mm_jfiles.specs.Files.header_of n)) next_is
-      ∙ sym (ap (λ (name : List ℕ). new_file_asks name (fmt.header (c.first + length c.runs))) (speaks.journal (c.first + length c.runs)) ∙ ap (new_file_asks (journal_name (c.first + length c.runs))) (speaks.header (c.first + length c.runs)))
+      ∙ sym (ap (λ (name : List ℕ). new_file_asks name (fmt.header (c.first + length c.runs))) (speaks.journal (c.first + length c.runs) room) ∙ ap (new_file_asks (journal_name (c.first + length c.runs))) (speaks.header (c.first + length c.runs)))
 
   pub tracks_begun : Tracks fmt (begun f) (record c { runs = c.runs ++ [] ∷ [] })
   tracks_begun = record {
@@ -77,11 +77,11 @@ module _ (fmt : Format) (at : Names) (speaks : Speaks fmt at) (f : Files) (c : C
     end_is = tr.end (omega (arith, sized)) ∙ ap (end_of fmt c.first) is ∙ end_of-append fmt c.first front last
 
     -- the section's write and sync
-    pub writes_so : (bytes : List ℕ) → write_ask f bytes ∷ record { name = journal_name (last_number f); change = Syncs } ∷ [] ≡ write_asks (at.journal (c.first + length front)) (length (file_bytes fmt (c.first + length front) last)) bytes
-    writes_so bytes =
+    pub writes_so : c.first + length front < 2 ^ 32 → (bytes : List ℕ) → write_ask f bytes ∷ record { name = journal_name (last_number f); change = Syncs } ∷ [] ≡ write_asks (at.journal (c.first + length front)) (length (file_bytes fmt (c.first + length front) last)) bytes
+    writes_so room bytes =
         ap (λ n. write_asks (journal_name n) f.end bytes) last_is
         ∙ ap (λ e. write_asks (journal_name (c.first + length front)) e bytes) end_is
-        ∙ sym (ap (λ (name : List ℕ). write_asks name (length (file_bytes fmt (c.first + length front) last)) bytes) (speaks.journal (c.first + length front)))
+        ∙ sym (ap (λ (name : List ℕ). write_asks name (length (file_bytes fmt (c.first + length front) last)) bytes) (speaks.journal (c.first + length front) room))
 
     pub tracks_written : (x : Section) (bytes : List ℕ) → bytes ≡ fmt.section (c.first + length front) x → Tracks fmt (written x.number (length bytes) f) (record c { runs = front ++ (last ++ x ∷ []) ∷ []; s = c.s + 1 })
     tracks_written x bytes spells = record {
@@ -122,7 +122,7 @@ module _ (fmt : Format) (at : Names) (db : List ℕ → ℕ) (speaks : Speaks fm
       inside = omega (arith, room, speaks.count)
 
       asks_are : asks ≡ write_asks (at.journal (c.first + length front)) (length (file_bytes fmt (c.first + length front) last)) (fmt.section (c.first + length front) x)
-      asks_are = writes_so fmt at speaks f c tr front last is bytes ∙ ap (write_asks (at.journal (c.first + length front)) (length (file_bytes fmt (c.first + length front) last))) spells
+      asks_are = writes_so fmt at speaks f c tr front last is room bytes ∙ ap (write_asks (at.journal (c.first + length front)) (length (file_bytes fmt (c.first + length front) last))) spells
 
       pub behind_cut : (v : Told) → IsCut asks u v → Leaves P t v
       behind_cut v cut = log_cut fmt at db t story c receipts u k front last is inside x next v (subst (λ (l : List Ask). IsCut l u v) asks_are cut)
@@ -142,12 +142,12 @@ module _ (fmt : Format) (at : Names) (db : List ℕ → ℕ) (speaks : Speaks fm
       safe = begin_safe fmt at db story k.sound c u k.rest rooms
 
       begun_kept : IsKept fmt at db t story (record c { runs = c.runs ++ [] ∷ [] }) receipts (asked (begin_asks f) u)
-      begun_kept = subst (λ (l : List Ask). IsKept fmt at db t story (record c { runs = c.runs ++ [] ∷ [] }) receipts (asked l u)) (sym (begins_so fmt at speaks f c tr))
+      begun_kept = subst (λ (l : List Ask). IsKept fmt at db t story (record c { runs = c.runs ++ [] ∷ [] }) receipts (asked l u)) (sym (begins_so fmt at speaks f c tr (omega (arith, rooms, speaks.count))))
           (kept_all fmt at db t story c (record c { runs = c.runs ++ [] ∷ [] }) receipts u k (new_file_asks (at.journal (c.first + length c.runs)) (fmt.header (c.first + length c.runs))) safe (begin_rest fmt at db story k.sound c u k.rest rooms) refl)
 
       begun_cut : (v : Told) → IsCut (begin_asks f) u v → Leaves P t v
       begun_cut v cut = leaves_map (WholeAt fmt at story (synced_before receipts)) P t v (λ m y image whole chance. whole_more fmt at db story x (synced_before receipts m) image (whole chance))
-          (kept_cut fmt at db t story c receipts u k (new_file_asks (at.journal (c.first + length c.runs)) (fmt.header (c.first + length c.runs))) v safe (subst (λ (l : List Ask). IsCut l u v) (begins_so fmt at speaks f c tr) cut))
+          (kept_cut fmt at db t story c receipts u k (new_file_asks (at.journal (c.first + length c.runs)) (fmt.header (c.first + length c.runs))) v safe (subst (λ (l : List Ask). IsCut l u v) (begins_so fmt at speaks f c tr (omega (arith, rooms, speaks.count))) cut))
 
       -- the calls, by whether the last file is full
       asks_full : is_full f ≡ true → log_asks f bytes ≡ begin_asks f ++ write_ask (begun f) bytes ∷ record { name = journal_name (last_number (begun f)); change = Syncs } ∷ []
@@ -246,7 +246,7 @@ module _ (fmt : Format) (at : Names) (db : List ℕ → ℕ) (speaks : Speaks fm
     ask = record { name = at.journal c.first; change = Removes } ∷ []
 
     ask_is : remove_asks f.first 1 ≡ ask
-    ask_is = ap (λ n. remove_asks n 1) tr.first ∙ sym (ap (λ (name : List ℕ). record { name = name; change = Removes } ∷ []) (speaks.journal c.first))
+    ask_is = ap (λ n. remove_asks n 1) tr.first ∙ sym (ap (λ (name : List ℕ). record { name = name; change = Removes } ∷ []) (speaks.journal c.first (omega (arith, room, speaks.count))))
 
     safe_one : Safe (Rattle.mm_crash.specs.Parts.LogParts fmt at story c.mark c.floor c.s) ask u
     safe_one = remove_safe fmt at db story k.sound c u k.rest gone runs is room marked

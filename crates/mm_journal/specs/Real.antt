@@ -1,10 +1,13 @@
 -- The journal's sections, headers and numbers as they are written, for the theory of crashes.
-use Rattle.std.specs.Prelude.{ℕ, ◌+◌, ◌-◌, ◌%◌, ◌^◌, Bool, true, false, ◌&&◌, nat_lt, List}
+use Rattle.std.specs.Prelude.{ℕ, ◌+◌, ◌-◌, ◌%◌, ◌^◌, Bool, true, false, ◌&&◌, nat_lt, ◌==◌, if◌then◌else◌, List, ◌++◌, replicate, codes}
+use Rattle.std.specs.Fmt.{decimal}
 use Rattle.std.specs.List.{list_all}
 use Rattle.mm_frames.specs.Lsn.{lsn_bytes}
 use Rattle.mm_frames.specs.JournalHeader.{journal_header_bytes, header_kind}
 use Rattle.mm_frames.specs.declared.journal_header.HeaderKind.{HeaderKind}
 use Rattle.mm_frames.specs.declared.journal_header.HeaderKind.TheVariants.{Ours, Foreign, Broken}
+use Rattle.mm_jfiles.specs.Names.{journal_name}
+use Rattle.mm_ranges.specs.Limits.{ns_file}
 use Rattle.mm_section.specs.declared.section.Section.{Section}
 use Rattle.mm_section.specs.Spells.{parts_bytes, sealed_len, are_rising}
 use Rattle.mm_section.specs.Reading.{is_part}
@@ -25,3 +28,13 @@ is_broken n bytes = is_broken_kind (header_kind (n + 1) bytes)
 -- the lsn file of a number, which has 64 bits
 abbrev pub number_bytes : ℕ → List ℕ
 number_bytes n = lsn_bytes (n % 2 ^ 64)
+
+-- ---- names
+
+-- A number past 32 bits has no file. It has a name all the same, which no file of the disk has.
+abbrev pub file_name : ℕ → List ℕ
+file_name n = if nat_lt n (2 ^ 32) then journal_name n else replicate n 0
+
+-- a database's file: `NAME.ns`, or `NAME.` and its number
+abbrev pub disk_name : List ℕ → ℕ → List ℕ
+disk_name name file = if file == ns_file then name ++ codes ".ns" else name ++ codes "." ++ decimal file

@@ -13,7 +13,7 @@ use Rattle.mm_crash.specs.Rest.{Counts, file_bytes}
 pub record Speaks (fmt : Format) (at : Names) : Type 0 where
   pub header : (n : ℕ) → fmt.header n ≡ header_of n
   pub long : (n : ℕ) → length (fmt.header n) ≡ 8192
-  pub journal : (n : ℕ) → at.journal n ≡ journal_name n
+  pub journal : (n : ℕ) → n < 2 ^ 32 → at.journal n ≡ journal_name n
   pub count : at.count ≡ 2 ^ 32
 
 -- the number of the last section; 0 where there is none
