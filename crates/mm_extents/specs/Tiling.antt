@@ -1,5 +1,5 @@
 -- How extents tile the data files, and blocks the extents.
-use Rattle.std.specs.Prelude.{◌≡◌, ◌≢◌, ℕ, ℤ, pos, ◌+◌, ◌%◌, ◌≤◌, ◌⊎◌, List, length, Option, Some}
+use Rattle.std.specs.Prelude.{◌≡◌, ◌≢◌, ℕ, ℤ, pos, ◌+◌, ◌%◌, ◌<◌, ◌≤◌, ◌⊎◌, List, length, Option, Some}
 use Rattle.std.specs.Option.{option_map}
 use Rattle.mm_base.specs.Bytes.{padded}
 use Rattle.mm_base.specs.declared.place.DiskLoc.{DiskLoc}
@@ -62,9 +62,10 @@ pub record IsBlock (g : Place → Option Outline) (free : List ℕ) (file at : �
   pub to : at + n ≤ a + m
   pub behind : BlockAt g (a + m) file a (at + n)
 
--- Extents tile each file from 8192 to its unused rest, and blocks tile each extent but the free ones, which have none. `free` is the name of free extents.
+-- Extents tile each file without overlap, from 8192 to its unused rest, and blocks tile each extent but the free ones, which have none. `free` is the name of free extents.
 pub record IsTiled (g : Place → Option Outline) (unused : ℕ → Option ℤ) (free : List ℕ) : Type 0 where
   pub begins : (file u : ℕ) → unused file ≡ Some (pos u) → ExtentAt g u file 8192
   pub extents : (file at magic : ℕ) (here : DiskLoc) (name : List ℕ) (len : ℤ) → g (file, at) ≡ Some (an_extent magic here name len)
       → (u : ℕ) × (unused file ≡ Some (pos u)) × ((n : ℕ) × IsExtent g u file at magic here name len n × (text_in name ≢ free → BlockAt g (at + n) file at (at + 176)))
+  pub apart : (file a b magic magic' n : ℕ) (here here' : DiskLoc) (name name' : List ℕ) (len : ℤ) → g (file, a) ≡ Some (an_extent magic here name (pos n)) → g (file, b) ≡ Some (an_extent magic' here' name' len) → a < b → a + n ≤ b
   pub blocks : (file at n : ℕ) (ext len : ℤ) → g (file, at) ≡ Some (a_block ext len n) → (a : ℕ) × ((m : ℕ) × IsBlock g free file at ext len n a m)

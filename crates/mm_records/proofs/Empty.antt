@@ -39,7 +39,8 @@ bare_stands image free t u b fs held f first last = record {
   files = fs;
   table = t;
   heap = record { data_file = λ p c e. absurd cc; behind_header = λ p c e. absurd cc; inside = λ p c e. absurd cc; shown = λ p c e. absurd cc; apart = λ f x y c d e g lt. absurd cc };
-  tiled = record { begins = λ file v e. inl (u file v e); extents = λ file at magic here name len e. absurd cc; blocks = λ file at n ext len e. absurd cc };
+  tiled = record { begins = λ file v e. inl (u file v e); extents = λ file at magic here name len e. absurd cc; apart = λ file a b magic magic' n here here' name name' len e e' lt. absurd cc; blocks = λ file at n ext len e. absurd cc };
+  owners = λ p h e. absurd cc;
   extents = record { linked = λ name. unlinked_none _ _ _; on_chain = λ name p h. absurd (false≢true h); all = λ p h e. absurd cc };
   records = record { linked = λ e. unlinked_none _ _ _; on_chain = λ e p h. absurd (false≢true h); all = λ p h room a e x. absurd cc; ends = λ e h x. absurd cc };
   lists = record { no_twice = λ name i. refl; on_list = λ name i p h. absurd (false≢true h); all = λ p h rest a hh e x y. absurd cc };

@@ -10,13 +10,14 @@ use Rattle.mm_base.specs.Bytes.{part}
 use Rattle.mm_base.specs.Places.{null}
 use Rattle.mm_ranges.specs.Overlay.{Image, bytes_at}
 use Rattle.mm_frames.specs.RecHeader.{rec_header_of}
+use Rattle.mm_frames.specs.declared.extent_header.ExtentHeader.{ExtentHeader}
 use Rattle.mm_frames.specs.declared.rec_header.RecHeader.{RecHeader}
 use Rattle.mm_frames.specs.declared.details.Details.{Details}
 use Rattle.mm_nstable.specs.Nodes.{name_in, node_at, IsTable}
 use Rattle.mm_nstable.specs.Table.{Held, table_of}
 use Rattle.mm_links.specs.Links.{Place, has, once, next_in}
 use Rattle.mm_links.proofs.LinkLaws.{before_of, has_before, has_next}
-use Rattle.mm_extents.specs.Heap.{live, Heap, IsHeap}
+use Rattle.mm_extents.specs.Heap.{extent, live, Heap, IsHeap}
 use Rattle.mm_extents.specs.Changes.{loc, ofs_or, len_of, KeepsHeaders}
 use Rattle.mm_extents.proofs.FileLaws.{files_kept}
 use Rattle.mm_extents.proofs.Writes.{heap_same}
@@ -25,13 +26,13 @@ use Rattle.mm_extents.specs.Files.{header_unused, unused_in}
 use Rattle.mm_frames.specs.Texts.{text_in}
 use Rattle.mm_records.specs.Constants.{is_name, constants_of}
 use Rattle.mm_records.specs.Shape.{Shape, list_for, rec_next, rec_prev}
-use Rattle.mm_records.specs.Stands.{Stands, FreeStands, IsOwn, DetailsStand, ns_in}
+use Rattle.mm_records.specs.Stands.{HasNode, Stands, FreeStands, IsOwn, DetailsStand, ns_in}
 use Rattle.mm_records.specs.Freeing.{forward, bypassed, freed_shape}
 use Rattle.mm_records.specs.Passing.{IsLive, HasExtent, LinkFits}
 use Rattle.mm_records.proofs.ConstantLaws.{free_chain_stays}
 use Rattle.mm_records.proofs.Cells.{core, core_next, core_first, forward_stays, LiveAt, live_core, extent_core}
 use Rattle.mm_records.proofs.Freed.{core_aft, name_is, name_own}
-use Rattle.mm_records.proofs.FreedStands.{ground_same, extents_stand, records_stand, lists_stand}
+use Rattle.mm_records.proofs.FreedStands.{extent_was, ground_same, extents_stand, records_stand, lists_stand}
 use Rattle.mm_records.proofs.FreedCounts.{count_less, size_less, own_details, other_details}
 
 module _ (image : Image) (free : List ℕ) (s : Shape) (node : ℕ) (p : Place) (own : IsOwn image free s node p) where
@@ -140,6 +141,9 @@ module _ (image : Image) (free : List ℕ) (s : Shape) (node : ℕ) (p : Place) 
     table_new : table_of (ns_in i4) ≡ insert (table_of (ns_in image)) own_name (record { node = node; details = d' })
     table_new = table4 ∙ (λ i. insert (table_of (k.ns i)) (name_in (node_at (k.ns i) node)) (record { node = node; details = d' }))
 
+    found : (m : List ℕ) → get (table_of (ns_in i4)) m ≡ cond (is_name m own_name) (Some (record { node = node; details = d' })) (get (table_of (ns_in image)) m)
+    found m = ap (λ t. get t m) table_new ∙ get-insert nat_list_cmp_total (table_of (ns_in image)) own_name (record { node = node; details = d' }) m
+
     counts_new : (m : List ℕ) (held : Held) → get (table_of (ns_in i4)) m ≡ Some held → m ≢ free → DetailsStand young m held.details
     counts_new m held e nf = by (cases_Bool (is_name m own_name))
       where
@@ -163,6 +167,15 @@ module _ (image : Image) (free : List ℕ) (s : Shape) (node : ℕ) (p : Place) 
         let f = own.stands.free_chain in
         (f.0, record { node = free_chain_stays (ns_in image) (ns_in i4) free own_name f.0 (record { node = node; details = d }) (record { node = node; details = d' }) f.1.node there own.isnt_free table_new; first = f.1.first; last = f.1.last })
 
+    node_stays : (m : List ℕ) (b : Bool) → is_name m own_name ≡ b → HasNode image m → HasNode i4 m
+    node_stays m true y n = (record { node = node; details = d' }, found m ∙ ap (λ (b : Bool). cond b (Some (record { node = node; details = d' })) (get (table_of (ns_in image)) m)) y)
+    node_stays m false y n = (n.0, found m ∙ ap (λ (b : Bool). cond b (Some (record { node = node; details = d' })) (get (table_of (ns_in image)) m)) y ∙ n.1)
+
+    owners_new : (q : Place) (g : ExtentHeader) → young.heap q ≡ Some (extent g) → HasNode i4 (text_in g.namespace)
+    owners_new q g i =
+        let t = extent_was s p own.h own.room own.a own.hh own.stands.extents own.stands.records own.stands.lists own.here own.ext own.there q g i in
+        node_stays (text_in g.namespace) (is_name (text_in g.namespace) own_name) refl (subst (λ (m : List ℕ). HasNode image (text_in m)) t.1.name_is (own.stands.owners q t.1.h t.1.is))
+
     pub stands_again : Stands i4 free young
     stands_again = record {
       files = files_kept image i4 (λ f. lengths f ∙ k.lengths f) (λ f lt. ap (part 0 8192) (files f lt) ∙ k.headers f) own.stands.files;
@@ -174,6 +187,7 @@ module _ (image : Image) (free : List ℕ) (s : Shape) (node : ℕ) (p : Place) 
       extents = extents_stand s p own.h own.room own.a own.hh own.stands.extents own.stands.records own.stands.lists own.here own.ext own.there;
       records = records_stand s p own.h own.room own.a own.hh own.stands.extents own.stands.records own.stands.lists own.here own.ext own.there;
       lists = lists_stand s p own.h own.room own.a own.hh own.stands.extents own.stands.records own.stands.lists own.here own.ext own.there;
+      owners = owners_new;
       counts = counts_new;
       free_chain = free_new;
     }

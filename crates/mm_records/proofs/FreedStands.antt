@@ -78,7 +78,7 @@ module _ (s : Shape) (p : Place) (h : RecHeader) (room : List ℕ) (a : ℕ) (hh
     | inr n ↦ (n, live_core (s.heap q) g r (sym (other q n) ∙ ap core i))
   ]
 
-  extent_was : (q : Place) (g : ExtentHeader) → new.heap q ≡ Some (extent g) → (same p q ≡ false) × ExtentAs (s.heap q) g
+  pub extent_was : (q : Place) (g : ExtentHeader) → new.heap q ≡ Some (extent g) → (same p q ≡ false) × ExtentAs (s.heap q) g
   extent_was q g i = elim (cases_Bool (same p q)) [
     | inl y ↦ absurd (let f : Some (deleted (record { length_with_headers = mid_here.h.length_with_headers; extent_ofs = mid_here.h.extent_ofs; next_deleted = next }) room) ≡ Some (extent g) = sym new_here ∙ ap new.heap (same_is p q y) ∙ i in cc)
     | inr n ↦ (n, extent_core (s.heap q) g (sym (other q n) ∙ ap core i))

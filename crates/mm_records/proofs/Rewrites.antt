@@ -7,6 +7,7 @@ use Rattle.std.proofs.lemmas.Bool.{cases_Bool}
 use Rattle.std.proofs.lemmas.List.{take-append-drop}
 use Rattle.mm_base.specs.Bytes.{overwritten}
 use Rattle.mm_ranges.specs.Overlay.{Image}
+use Rattle.mm_frames.specs.Texts.{text_in}
 use Rattle.mm_frames.specs.declared.details.Details.{Details}
 use Rattle.mm_frames.specs.declared.rec_header.RecHeader.{RecHeader}
 use Rattle.mm_nstable.specs.Nodes.{IsTable}
@@ -134,6 +135,7 @@ module _ (s : Shape) (p : Place) (h : RecHeader) (room room' : List ℕ) (long :
     tiled = (let whole : (ground s.heap, unused_in image) ≡ (ground new, unused_in image') = λ i. (λ q. sym (ground_again q) i, λ f. unused f i) in
         subst (λ (x : (Place → Option Outline) × (ℕ → Option ℤ)). IsTiled x.0 x.1 free) whole st.tiled);
     extents = extents_again st.extents;
+    owners = λ q g i. let t = st.owners q g (before q (extent g) i (λ f. cc)) in (t.0, ap (λ (ns : List ℕ). get (table_of ns) (text_in g.namespace)) k.ns ∙ t.1);
     records = records_again st.records;
     lists = lists_again st.lists;
     counts = λ name held e nf. details_again name held.details (st.counts name held (ap (λ (ns : List ℕ). get (table_of ns) name) (sym k.ns) ∙ e) nf);

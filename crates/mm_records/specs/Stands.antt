@@ -109,6 +109,10 @@ pub record FreeStands (image : Image) (free : List ℕ) (s : Shape) (held : Held
 abbrev pub ns_in : Image → List ℕ
 ns_in image = bytes_at image NS_FILE
 
+-- a node has the name
+abbrev pub HasNode : Image → List ℕ → Type 0
+HasNode image name = (held : Held) × (get (table_of (ns_in image)) name ≡ Some held)
+
 -- Points 1 and 3 to 5 hold of the files, which have this shape. `free` is the name of the node of the free chain, which point 5 leaves out.
 pub record Stands (image : Image) (free : List ℕ) (s : Shape) : Type 0 where
   pub files : FilesStand image
@@ -116,6 +120,7 @@ pub record Stands (image : Image) (free : List ℕ) (s : Shape) : Type 0 where
   pub heap : IsHeap image s.heap
   pub tiled : IsTiled (ground s.heap) (unused_in image) free
   pub extents : ExtentsStand s.heap s.extents
+  pub owners : (p : Place) (h : ExtentHeader) → s.heap p ≡ Some (extent h) → HasNode image (text_in h.namespace)
   pub records : RecordsStand s
   pub lists : ListsStand s
   pub counts : (name : List ℕ) (held : Held) → get (table_of (ns_in image)) name ≡ Some held → name ≢ free → DetailsStand s name held.details
