@@ -6,7 +6,7 @@ use Rattle.std.specs.Cmp.Lexicographic.{nat_list_cmp_total}
 use Rattle.mm_frames.specs.declared.details.Details.{Details}
 use Rattle.mm_nstable.specs.Table.{Held, table_of}
 use Rattle.mm_nstable.specs.FreeChain.{HasFreeChain}
-use Rattle.mm_records.specs.Constants.{is_name, HasConstants, constants_of}
+use Rattle.mm_records.specs.Constants.{is_name, HasConstants, SameConstants, constants_of}
 use Rattle.mm_records.proofs.Freed.{name_is}
 
 -- the fields are those of `constants_of`
@@ -70,3 +70,24 @@ module _ (old new free own : List ℕ) (held was now : Held) (h : HasFreeChain o
     named = h.named;
     only = λ m x g f. let o = old_of m (is_name m own) refl x g in h.only m o.0 o.1 f;
   }
+
+-- one name of the map has the same node and constant fields as before
+module _ (old new own : List ℕ) (was now : Held) (there : get (table_of old) own ≡ Some was) (e : table_of new ≡ insert (table_of old) own now)
+    (node : was.node ≡ now.node) (fields : constants_of was.details ≡ constants_of now.details) where
+  found_now : (m : List ℕ) → get (table_of new) m ≡ cond (is_name m own) (Some now) (get (table_of old) m)
+  found_now m = ap (λ t. get t m) e ∙ get-insert nat_list_cmp_total (table_of old) own now m
+
+  one : (x y : Held) → Some x ≡ Some y → x ≡ y
+  one x y f = cc
+
+  alike : {X : Type 0} (proj : Held → X) → proj was ≡ proj now → (m : List ℕ) (a b : Held) → get (table_of old) m ≡ Some a → get (table_of new) m ≡ Some b → proj a ≡ proj b
+  alike {X} proj same m a b x y = elim (cases_Bool (is_name m own)) [
+    | inl z ↦
+        let first : a ≡ was = one a was (sym x ∙ ap (λ (n : List ℕ). get (table_of old) n) (name_is m own z) ∙ there) in
+        let second : now ≡ b = one now b (sym (ap (λ (t : Bool). cond t (Some now) (get (table_of old) m)) z) ∙ sym (found_now m) ∙ y) in
+        ap proj first ∙ same ∙ ap proj second
+    | inr z ↦ ap proj (one a b (sym x ∙ sym (ap (λ (t : Bool). cond t (Some now) (get (table_of old) m)) z) ∙ sym (found_now m) ∙ y))
+  ]
+
+  pub same_constants : SameConstants old new
+  same_constants = record { nodes = alike (λ h. h.node) node; details = alike (λ h. constants_of h.details) fields }

@@ -1,12 +1,14 @@
 -- The fields of details that no record changes (MongoDB 2.6, MMAPv1: NamespaceDetails).
-use Rattle.std.specs.Prelude.{◌≡◌, ℕ, ℤ, pos, suc, ◌<◌, ◌≤ℤ◌, Bool, false, ◌&&◌, ◌==◌, not, if◌then◌else◌, List, [], ◌∷◌, drop, slice_index_or}
+use Rattle.std.specs.Prelude.{◌≡◌, ℕ, ℤ, pos, suc, ◌<◌, ◌≤ℤ◌, Bool, false, ◌&&◌, ◌==◌, not, if◌then◌else◌, List, [], ◌∷◌, drop, slice_index_or, Some}
 use Rattle.std.specs.List.{prefix_len, list_any}
 use Rattle.std.specs.Ordering.{eq_by_cmp, nat_cmp}
 use Rattle.std.specs.Cmp.Lexicographic.{slice_cmp}
+use Rattle.std.specs.FinMap.{get}
 use Rattle.mm_base.specs.Places.{null}
 use Rattle.mm_frames.specs.declared.details.TheConstants.{PADDING, MAX_DOCS_UNCAPPED}
 use Rattle.mm_frames.specs.declared.details.Details.{Details}
 use Rattle.mm_frames.specs.declared.index_pair.IndexPair.{IndexPair}
+use Rattle.mm_nstable.specs.Table.{Held, table_of}
 
 -- the two names are one
 abbrev pub is_name : List ℕ → List ℕ → Bool
@@ -52,3 +54,8 @@ pub record HasConstants (name : List ℕ) (d : Details) : Type 0 where
 -- details without what records, extents and lists change
 abbrev pub constants_of : Details → Details
 constants_of d = record d { first_extent = null; last_extent = null; deleted = []; datasize = pos 0; nrecords = pos 0; last_extent_size = pos 0 }
+
+-- Each name that two `.ns` files have is in the same node, with the same constant fields.
+pub record SameConstants (old new : List ℕ) : Type 0 where
+  pub nodes : (name : List ℕ) (a b : Held) → get (table_of old) name ≡ Some a → get (table_of new) name ≡ Some b → a.node ≡ b.node
+  pub details : (name : List ℕ) (a b : Held) → get (table_of old) name ≡ Some a → get (table_of new) name ≡ Some b → constants_of a.details ≡ constants_of b.details

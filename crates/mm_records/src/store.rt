@@ -6,6 +6,7 @@ ghost use Rattle.mm_nstable.specs.Nodes.{SameNames};
 ghost use Rattle.std.specs.Option.{option_map};
 ghost use Rattle.mm_links.specs.Links.{Place, first_of, next_in};
 ghost use Rattle.mm_extents.specs.Changes.{DeclaresAtMost, loc};
+ghost use Rattle.mm_records.specs.Constants.{SameConstants};
 ghost use Rattle.mm_records.specs.Shape.{Shape};
 ghost use Rattle.mm_records.specs.Stands.{Stands, IsNode, ns_in, walk};
 ghost use Rattle.mm_records.specs.Map.{HasRecord, IsFreed, IsRewritten, name_at};
@@ -37,6 +38,7 @@ impl RecordStore {
         requires { (free : List ℕ) × ((s : Shape) × ((p : Place) × ((room : List ℕ) × HasRecord draft.old.image free s self.now.node p at room))) }
         ensures stands { OnOk result ((free : List ℕ) (s : Shape) (p : Place) (room : List ℕ) → HasRecord draft.old.image free s self.now.node p at room
             → (t : Shape) × (Stands draft.new.image free t × IsFreed s t (name_at draft.old.image self.now.node) p (16 + length room))) }
+        ensures constants { OnOk result (SameConstants (ns_in draft.old.image) (ns_in draft.new.image)) }
         ensures names { OnOk result (SameNames (ns_in draft.old.image) (ns_in draft.new.image)) }
         ensures weight { DeclaresAtMost 912 draft.old draft.new }
     {

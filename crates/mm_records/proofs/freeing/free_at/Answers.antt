@@ -1,4 +1,4 @@
-use Rattle.std.proofs.Common.{◌≡◌, ℕ, pos, ◌+◌, ◌-◌, ◌<◌, List, length, to_z, of_z, sym, ◌∙◌, ap, subst, arith, rules}
+use Rattle.std.proofs.Common.{◌≡◌, ℕ, pos, ◌+◌, ◌-◌, ◌<◌, List, length, to_z, of_z, sym, ◌∙◌, ap, subst, arith, rules, refl}
 use Rattle.std.specs.Prelude.{FitsSigned, slice_index_or}
 use Rattle.std.specs.Int.{w32}
 use Rattle.std.proofs.lemmas.Int.{to_z-of_z}
@@ -6,7 +6,10 @@ use Rattle.std.proofs.lemmas.List.{get_or_default}
 use Rattle.std.proofs.lemmas.Result.{on_ok_weaker}
 use Rattle.mm_base.specs.Places.{null}
 use Rattle.mm_frames.specs.declared.rec_header.RecHeader.{RecHeader}
-use Rattle.mm_nstable.specs.Nodes.{is_used, count_of, SameNames}
+use Rattle.mm_nstable.specs.Nodes.{is_used, count_of, SameNames, name_in, node_at, IsTable}
+use Rattle.mm_nstable.specs.Table.{table_of}
+use Rattle.std.specs.FinMap.{insert}
+use Rattle.mm_records.proofs.ConstantLaws.{same_constants}
 use Rattle.mm_records.specs.Stands.{ns_in}
 use Rattle.mm_extents.proofs.Fields.{keeps_both}
 use Rattle.mm_records.specs.Shape.{list_for}
@@ -132,3 +135,16 @@ returns-clause-names c =
     let fn : FitsSigned w32 c.read_record-head.result.next_ofs = search rules in
     let k = (keeps_both c.args.draft.now.image c.pass_back.«new».draft.image c.set_deleted.«new».draft.image (keeps_both c.args.draft.now.image c.pass_forward.«new».draft.image c.pass_back.«new».draft.image c.in_ok-pass_forward.ensures.kept c.in_ok-pass_back.ensures.kept) (kept_by c.pass_back.«new».draft c.set_deleted.«new».draft c.args.at.file c.args.at.ofs 16 c.in_ok-set_deleted.ensures.written (record { data_file = own_file c.args.draft.now.image c.requires.0 c.requires.1.0 c.args.node (c.args.at.file, c.args.at.ofs) c.requires.1.1; behind = own_behind c.args.draft.now.image c.requires.0 c.requires.1.0 c.args.node (c.args.at.file, c.args.at.ofs) c.requires.1.1; inside = deleted_asks c.args.draft.now.image c.requires.0 c.requires.1.0 c.args.node (c.args.at.file, c.args.at.ofs) c.requires.1.1 c.natural-ext.result (to_z w32 (of_z w32 c.read_record-head.result.prev_ofs)) (to_z w32 (of_z w32 c.read_record-head.result.next_ofs)) (reads_of c.args.draft.now.image c.requires.0 c.requires.1.0 c.args.node (c.args.at.file, c.args.at.ofs) c.requires.1.1 c.read_record-head.result c.natural-ext.result c.read_record-head.ensures fe fp fn c.natural-ext.ensures) c.pass_forward.«new».draft.image c.in_ok-pass_forward.ensures.heap c.pass_back.«new».draft.image c.in_ok-pass_back.ensures.heap }))) in
     on_ok_weaker c.put_node.result (λ _. subst (λ (ns : List ℕ). SameNames ns (ns_in c.put_node.«new».draft.image)) k.ns c.put_node.ensures.names) c.put_node.ensures.files
+
+pub returns-clause-constants : goal.returns-clause-constants
+returns-clause-constants c =
+    let fe : FitsSigned w32 c.read_record-head.result.extent_ofs = search rules in
+    let fp : FitsSigned w32 c.read_record-head.result.prev_ofs = search rules in
+    let fn : FitsSigned w32 c.read_record-head.result.next_ofs = search rules in
+    let k = (keeps_both c.args.draft.now.image c.pass_back.«new».draft.image c.set_deleted.«new».draft.image (keeps_both c.args.draft.now.image c.pass_forward.«new».draft.image c.pass_back.«new».draft.image c.in_ok-pass_forward.ensures.kept c.in_ok-pass_back.ensures.kept) (kept_by c.pass_back.«new».draft c.set_deleted.«new».draft c.args.at.file c.args.at.ofs 16 c.in_ok-set_deleted.ensures.written (record { data_file = own_file c.args.draft.now.image c.requires.0 c.requires.1.0 c.args.node (c.args.at.file, c.args.at.ofs) c.requires.1.1; behind = own_behind c.args.draft.now.image c.requires.0 c.requires.1.0 c.args.node (c.args.at.file, c.args.at.ofs) c.requires.1.1; inside = deleted_asks c.args.draft.now.image c.requires.0 c.requires.1.0 c.args.node (c.args.at.file, c.args.at.ofs) c.requires.1.1 c.natural-ext.result (to_z w32 (of_z w32 c.read_record-head.result.prev_ofs)) (to_z w32 (of_z w32 c.read_record-head.result.next_ofs)) (reads_of c.args.draft.now.image c.requires.0 c.requires.1.0 c.args.node (c.args.at.file, c.args.at.ofs) c.requires.1.1 c.read_record-head.result c.natural-ext.result c.read_record-head.ensures fe fp fn c.natural-ext.ensures) c.pass_forward.«new».draft.image c.in_ok-pass_forward.ensures.heap c.pass_back.«new».draft.image c.in_ok-pass_back.ensures.heap }))) in
+    let there = details_same c.args.draft.now.image c.pass_back.«new».draft.image c.args.node c.details-counts.result (keeps_both c.args.draft.now.image c.pass_forward.«new».draft.image c.pass_back.«new».draft.image c.in_ok-pass_forward.ensures.kept c.in_ok-pass_back.ensures.kept) c.requires.1.1.stands.table c.requires.1.1.used c.details-counts.ensures.table in
+    on_ok_weaker c.put_node.result (λ w.
+    same_constants (ns_in c.args.draft.now.image) (ns_in c.put_node.«new».draft.image) (name_in (node_at (ns_in c.args.draft.now.image) c.args.node))
+    (record { node = c.args.node; details = c.details-counts.result }) (record { node = c.args.node; details = c.count_out.«new».counts }) there
+    (subst (λ (ns : List ℕ). IsTable ns → table_of (ns_in c.put_node.«new».draft.image) ≡ insert (table_of ns) (name_in (node_at ns c.args.node)) (record { node = c.args.node; details = c.count_out.«new».counts })) k.ns w c.requires.1.1.stands.table)
+    refl (sym c.count_out.ensures.constants)) c.put_node.ensures.table
