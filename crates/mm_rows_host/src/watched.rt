@@ -1,0 +1,158 @@
+//! A system that writes down what it is asked.
+
+use std::alloc::{Allocator, Global};
+use std::cell::RefCell;
+use std::fs::{self, File, Metadata, OpenFile, OpenOptions};
+use std::io::{self, ErrorKind, Read, Seek, SeekFrom, Write};
+use std::process;
+use std::rt::Files;
+use std::test::Fail;
+
+/// The path of a folder that isn't there.
+pub fn fresh_folder(rt: HostRuntime, name: &str) -> Result<String, Fail> {
+    let id = process::id(rt.process());
+    let folder = format!(in rt.alloc(); "mm_rows_host-{name}-{id}")?;
+    if fs::exists(&rt, folder.as_str())? {
+        fs::remove_dir_all(&rt, folder.as_str())?;
+    }
+    Ok(folder)
+}
+
+/// The real files, and all that they were asked to make, write, cut, take and sync. F stands for the disk's folder.
+#[derive(Clone, Copy)]
+pub struct Watched<'a> {
+    pub rt: HostRuntime,
+    pub folder: &'a str,
+    pub asked: &'a RefCell<String>,
+}
+
+impl Watched<'_> {
+    fn note(&self, what: &str, path: &str) -> io::Result<()> {
+        let Ok(mut asked) = self.asked.try_borrow_mut() else {
+            return Err(io::Error::from(ErrorKind::ResourceBusy));
+        };
+        let name = path.strip_prefix(self.folder).unwrap_or(path);
+        asked.push_str(what)?;
+        asked.push_str(" F")?;
+        asked.push_str(name)?;
+        asked.push_str("; ")?;
+        Ok(())
+    }
+}
+
+#[derive(Drop)]
+pub struct WatchedFile<'a> {
+    file: File,
+    path: String,
+    system: Watched<'a>,
+}
+
+impl Alloc for Watched<'_> {
+    type A = Global;
+
+    fn alloc(&self) -> Global {
+        self.rt.alloc()
+    }
+}
+
+impl Read for WatchedFile<'_> {
+    fn read(&mut self, buf: &mut [u8]) -> io::Result<usize> {
+        self.file.read(buf)
+    }
+}
+
+impl Write for WatchedFile<'_> {
+    fn write(&mut self, buf: &[u8]) -> io::Result<usize> {
+        let count = self.file.write(buf)?;
+        self.system.note("write", self.path.as_str())?;
+        Ok(count)
+    }
+
+    fn flush(&mut self) -> io::Result<()> {
+        self.file.flush()
+    }
+}
+
+impl Seek for WatchedFile<'_> {
+    fn seek(&mut self, to: SeekFrom) -> io::Result<u64> {
+        self.file.seek(to)
+    }
+}
+
+impl OpenFile for WatchedFile<'_> {
+    fn metadata(&self) -> io::Result<Metadata> {
+        self.file.metadata()
+    }
+
+    fn set_len(&self, size: u64) -> io::Result<()> {
+        self.file.set_len(size)?;
+        self.system.note("cut", self.path.as_str())
+    }
+
+    fn sync_all(&self) -> io::Result<()> {
+        self.file.sync_all()?;
+        self.system.note("sync", self.path.as_str())
+    }
+
+    fn sync_data(&self) -> io::Result<()> {
+        self.file.sync_data()
+    }
+}
+
+impl<'a> Files for Watched<'a> {
+    type File = WatchedFile<'a>;
+
+    type Dir = <HostRuntime as Files>::Dir;
+
+    fn open_file(&self, how: &OpenOptions, path: &str) -> io::Result<WatchedFile<'a>> {
+        let was_there = self.rt.symlink_metadata(path).is_ok();
+        let file = self.rt.open_file(how, path)?;
+        if !was_there {
+            self.note("make", path)?;
+        }
+        let path = String::from_str(self.rt.alloc(), path)?;
+        Ok(WatchedFile {
+            file,
+            path,
+            system: *self,
+        })
+    }
+
+    fn open_dir(&self, path: &str) -> io::Result<<HostRuntime as Files>::Dir> {
+        self.rt.open_dir(path)
+    }
+
+    fn metadata(&self, path: &str) -> io::Result<Metadata> {
+        self.rt.metadata(path)
+    }
+
+    fn symlink_metadata(&self, path: &str) -> io::Result<Metadata> {
+        self.rt.symlink_metadata(path)
+    }
+
+    fn copy(&self, from: &str, to: &str) -> io::Result<u64> {
+        self.rt.copy(from, to)
+    }
+
+    fn rename(&self, from: &str, to: &str) -> io::Result<()> {
+        self.rt.rename(from, to)
+    }
+
+    fn remove_file(&self, path: &str) -> io::Result<()> {
+        self.rt.remove_file(path)?;
+        self.note("take", path)
+    }
+
+    fn create_dir(&self, path: &str) -> io::Result<()> {
+        self.rt.create_dir(path)?;
+        self.note("make", path)
+    }
+
+    fn remove_dir(&self, path: &str) -> io::Result<()> {
+        self.rt.remove_dir(path)
+    }
+
+    fn remove_dir_all<B: Allocator>(&self, alloc: B, path: &str) -> io::Result<()> {
+        self.rt.remove_dir_all(alloc, path)
+    }
+}
