@@ -1,6 +1,7 @@
 pub mod Asked
 pub mod ClassEnds
 pub mod Conditions
+pub mod Contrary
 pub mod Filling
 pub mod Firsts
 pub mod Levels

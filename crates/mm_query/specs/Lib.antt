@@ -3,3 +3,4 @@ pub mod Form
 pub mod Match
 pub mod Selection
 pub mod TreeCode
+pub mod Laws

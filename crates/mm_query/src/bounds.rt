@@ -27,7 +27,7 @@ fn equal_to(condition: &Value) -> Option<&Value>
 {
     match condition {
         Value::Array(_) => None,
-        Value::Document(doc) if has_operators(doc.elements()) => None,
+        Value::Document(doc) if has_operators(doc.as_ref().fields()) => None,
         _ => Some(condition),
     }
 }

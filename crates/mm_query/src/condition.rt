@@ -4,42 +4,41 @@ ghost use Rattle.std.specs.Prelude.{◌≡◌, ◌↔◌, true, IsTrue, option_m
 ghost use Rattle.std.specs.declared.cmp.Ordering.TheVariants.{Equal};
 ghost use Rattle.mm_bson.specs.Tree.{boolean};
 ghost use Rattle.mm_bson.specs.Order.{class as class_of, compare};
-ghost use Rattle.mm_bson.specs.View.{tree, elements_of, values_of};
+ghost use Rattle.mm_bson.specs.View.{tree_in};
 ghost use Rattle.mm_query.specs.Form.{has_dollar as begins_with_dollar, has_operators as has_operators_in};
 ghost use Rattle.mm_query.specs.Match.{SomeOf, Equals, is_so as is_so_by, Stands, EqualsSome, HoldsAt, AllHold, MeetsAt, Meets};
 
 use crate::operator::{Operator, operator_of};
-use mm_bson::{Element, Value, class, cmp};
+use mm_bson::{Fields, Items, ValueRef};
 use std::cmp::Ordering;
 
-fn is_equal(value: &Value, operand: &Value) -> bool
-    ensures { IsTrue result ↔ (compare (tree value.now) (tree operand.now) ≡ Equal) }
+fn is_equal(operand: &ValueRef<'_>, value: &ValueRef<'_>) -> bool
+    ensures { IsTrue result ↔ (compare (tree_in value.now) (tree_in operand.now) ≡ Equal) }
 {
-    cmp(value, operand) == Ordering::Equal
+    value.cmp(operand) == Ordering::Equal
 }
 
-fn some_equal(values: &[Value], operand: &Value) -> bool
-    ensures { IsTrue result ↔ SomeOf (λ v. compare v (tree operand.now) ≡ Equal) (values_of values.now) }
+fn some_equal(operand: &ValueRef<'_>, values: Items<'_>) -> bool
+    ensures { IsTrue result ↔ SomeOf (λ v. compare v (tree_in operand.now) ≡ Equal) values.entry }
 {
     let mut rest = values;
-    while let [first, others @ ..] = rest {
-        if is_equal(first, operand) {
+    while let Some(first) = rest.next() {
+        if is_equal(operand, &first) {
             return true;
         }
-        rest = others;
     }
     false
 }
 
 /// Whether a value is equal to the operand, or an array with such an element.
-fn equals(operand: &Value, value: &Value) -> bool
-    ensures { IsTrue result ↔ Equals (tree operand.now) (tree value.now) }
+fn equals(operand: &ValueRef<'_>, value: &ValueRef<'_>) -> bool
+    ensures { IsTrue result ↔ Equals (tree_in operand.now) (tree_in value.now) }
 {
-    if is_equal(value, operand) {
+    if is_equal(operand, value) {
         return true;
     }
     match value {
-        Value::Array(list) => some_equal(list.values(), operand),
+        ValueRef::Array(list) => some_equal(operand, list.items()),
         _ => false,
     }
 }
@@ -55,72 +54,70 @@ fn is_so(operator: Operator, order: Ordering) -> bool
     }
 }
 
-fn one_stands(operator: Operator, operand: &Value, value: &Value) -> bool
-    ensures { IsTrue result ↔ ((class_of (tree value.now) ≡ class_of (tree operand.now)) × (is_so_by operator (compare (tree value.now) (tree operand.now)) ≡ true)) }
+fn one_stands(operator: Operator, operand: &ValueRef<'_>, value: &ValueRef<'_>) -> bool
+    ensures { IsTrue result ↔ ((class_of (tree_in value.now) ≡ class_of (tree_in operand.now)) × (is_so_by operator (compare (tree_in value.now) (tree_in operand.now)) ≡ true)) }
 {
-    class(value) == class(operand) && is_so(operator, cmp(value, operand))
+    value.class() == operand.class() && is_so(operator, value.cmp(operand))
 }
 
-fn some_stands(operator: Operator, operand: &Value, values: &[Value]) -> bool
-    ensures { IsTrue result ↔ SomeOf (λ v. (class_of v ≡ class_of (tree operand.now)) × (is_so_by operator (compare v (tree operand.now)) ≡ true)) (values_of values.now) }
+fn some_stands(operator: Operator, operand: &ValueRef<'_>, values: Items<'_>) -> bool
+    ensures { IsTrue result ↔ SomeOf (λ v. (class_of v ≡ class_of (tree_in operand.now)) × (is_so_by operator (compare v (tree_in operand.now)) ≡ true)) values.entry }
 {
     let mut rest = values;
-    while let [first, others @ ..] = rest {
-        if one_stands(operator, operand, first) {
+    while let Some(first) = rest.next() {
+        if one_stands(operator, operand, &first) {
             return true;
         }
-        rest = others;
     }
     false
 }
 
 /// Whether a value of the operand's class stands so to it, or is an array with
 /// such an element.
-fn stands(operator: Operator, operand: &Value, value: &Value) -> bool
-    ensures { IsTrue result ↔ Stands operator (tree operand.now) (tree value.now) }
+fn stands(operator: Operator, operand: &ValueRef<'_>, value: &ValueRef<'_>) -> bool
+    ensures { IsTrue result ↔ Stands operator (tree_in operand.now) (tree_in value.now) }
 {
     if one_stands(operator, operand, value) {
         return true;
     }
     match value {
-        Value::Array(list) => some_stands(operator, operand, list.values()),
+        ValueRef::Array(list) => some_stands(operator, operand, list.items()),
         _ => false,
     }
 }
 
-fn equals_one(operands: &[Value], value: &Value) -> bool
-    ensures { IsTrue result ↔ SomeOf (λ u. Equals u (tree value.now)) (values_of operands.now) }
+fn equals_one(operands: Items<'_>, value: &ValueRef<'_>) -> bool
+    ensures { IsTrue result ↔ SomeOf (λ u. Equals u (tree_in value.now)) operands.entry }
 {
     let mut rest = operands;
-    while let [first, others @ ..] = rest {
-        if equals(first, value) {
+    while let Some(first) = rest.next() {
+        if equals(&first, value) {
             return true;
         }
-        rest = others;
     }
     false
 }
 
-fn equals_some(operand: &Value, value: &Value) -> bool
-    ensures { IsTrue result ↔ EqualsSome (tree operand.now) (tree value.now) }
+fn equals_some(operand: &ValueRef<'_>, value: &ValueRef<'_>) -> bool
+    ensures { IsTrue result ↔ EqualsSome (tree_in operand.now) (tree_in value.now) }
 {
     match operand {
-        Value::Array(list) => equals_one(list.values(), value),
+        ValueRef::Array(list) => equals_one(list.items(), value),
         _ => false,
     }
 }
 
-fn is_there(operand: &Value, found: bool) -> bool
-    ensures { IsTrue result ↔ (tree operand.now ≡ boolean found) }
+fn is_there(operand: &ValueRef<'_>, found: bool) -> bool
+    ensures { IsTrue result ↔ (tree_in operand.now ≡ boolean found) }
 {
     match operand {
-        Value::Boolean(wanted) => *wanted == found,
+        ValueRef::Boolean(wanted) => *wanted == found,
         _ => false,
     }
 }
 
-fn holds_at(operator: Operator, operand: &Value, value: &Value, found: bool) -> bool
-    ensures { IsTrue result ↔ HoldsAt operator (tree operand.now) (tree value.now) found }
+fn holds_at(operator: Operator, operand: &ValueRef<'_>, value: &ValueRef<'_>, found: bool) -> bool
+    ensures { IsTrue result ↔ HoldsAt operator (tree_in operand.now) (tree_in value.now) found }
 {
     match operator {
         Operator::Ne => !equals(operand, value),
@@ -134,11 +131,11 @@ fn holds_at(operator: Operator, operand: &Value, value: &Value, found: bool) -> 
 }
 
 /// Whether all operators hold of a value, which is null where none was found.
-fn all_hold(operators: &[Element], value: &Value, found: bool) -> bool
-    ensures { IsTrue result ↔ AllHold (elements_of operators.now) (tree value.now) found }
+fn all_hold(operators: Fields<'_>, value: &ValueRef<'_>, found: bool) -> bool
+    ensures { IsTrue result ↔ AllHold operators.entry (tree_in value.now) found }
 {
     let mut rest = operators;
-    while let [first, others @ ..] = rest {
+    while let Some(first) = rest.next() {
         let holds = match operator_of(first.name.as_bytes()) {
             Some(operator) => holds_at(operator, &first.value, value, found),
             None => false,
@@ -146,18 +143,18 @@ fn all_hold(operators: &[Element], value: &Value, found: bool) -> bool
         if !holds {
             return false;
         }
-        rest = others;
     }
     true
 }
 
 /// Whether a document is one of operators.
-pub(crate) fn has_operators(fields: &[Element]) -> bool
-    ensures { result ≡ has_operators_in (elements_of fields.now) }
+pub(crate) fn has_operators(fields: Fields<'_>) -> bool
+    ensures { result ≡ has_operators_in fields.entry }
 {
-    match fields {
-        [first, ..] => has_dollar(first.name.as_bytes()),
-        [] => false,
+    let mut rest = fields;
+    match rest.next() {
+        Some(first) => has_dollar(first.name.as_bytes()),
+        None => false,
     }
 }
 
@@ -171,12 +168,12 @@ pub(crate) fn has_dollar(name: &[u8]) -> bool
     }
 }
 
-fn meets_at(condition: &Value, value: &Value, found: bool) -> bool
-    ensures { IsTrue result ↔ MeetsAt (tree condition.now) (tree value.now) found }
+fn meets_at(condition: &ValueRef<'_>, value: &ValueRef<'_>, found: bool) -> bool
+    ensures { IsTrue result ↔ MeetsAt (tree_in condition.now) (tree_in value.now) found }
 {
     match condition {
-        Value::Document(doc) if has_operators(doc.elements()) => {
-            all_hold(doc.elements(), value, found)
+        ValueRef::Document(doc) if has_operators(doc.fields()) => {
+            all_hold(doc.fields(), value, found)
         }
         _ => equals(condition, value),
     }
@@ -184,11 +181,11 @@ fn meets_at(condition: &Value, value: &Value, found: bool) -> bool
 
 /// Whether the value at a path meets a condition. A missing one counts as null
 /// but for `$exists`.
-pub(crate) fn meets(condition: &Value, found: Option<&Value>) -> bool
-    ensures { IsTrue result ↔ Meets (tree condition.now) (option_map (λ v. tree v.now) found.entry) }
+pub(crate) fn meets(condition: &ValueRef<'_>, found: Option<ValueRef<'_>>) -> bool
+    ensures { IsTrue result ↔ Meets (tree_in condition.now) (option_map tree_in found.entry) }
 {
     match found {
-        Some(value) => meets_at(condition, value, true),
-        None => meets_at(condition, &Value::Null, false),
+        Some(value) => meets_at(condition, &value, true),
+        None => meets_at(condition, &ValueRef::Null, false),
     }
 }

@@ -14,7 +14,7 @@ use crate::form::wrong_filter;
 use crate::matching::fields_match;
 use crate::memory::NoMemory;
 use crate::side::Side;
-use mm_bson::Doc;
+use mm_bson::{Doc, DocRef};
 use mm_keys::KeySpec;
 use std::alloc::Global;
 use std::marker::Model;
@@ -56,7 +56,14 @@ impl Filter {
     pub fn matches(&self, doc: &Doc) -> bool
         ensures { IsTrue result ↔ Matches self.now doc.now }
     {
-        fields_match(self.document.elements(), doc)
+        self.matches_in_place(&doc.as_ref())
+    }
+
+    /// Whether a document in place matches the filter.
+    pub fn matches_in_place(&self, doc: &DocRef<'_>) -> bool
+        ensures { IsTrue result ↔ Matches self.now doc.now }
+    {
+        fields_match(self.document.as_ref().fields(), doc)
     }
 
     /// Between which keys by a specification those of the matching documents

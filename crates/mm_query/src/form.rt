@@ -35,7 +35,9 @@ fn wrong_condition(value: &Value) -> Option<&Text>
     ensures { option_map (λ t. t.now) result ≡ wrong_condition_in (tree value.now) }
 {
     match value {
-        Value::Document(doc) if has_operators(doc.elements()) => wrong_operators(doc.elements()),
+        Value::Document(doc) if has_operators(doc.as_ref().fields()) => wrong_operators(
+            doc.elements(),
+        ),
         _ => None,
     }
 }

@@ -1,10 +1,10 @@
 //! Laws of the definitions, each the contract of a function that does nothing.
 
-ghost use Rattle.std.specs.Prelude.{◌↔◌, Bool, codes};
-ghost use Rattle.mm_query.specs.declared.operator.Operator.TheVariants.{In, Nin, Ne};
-ghost use Rattle.mm_bson.specs.Tree.{Tree, document, array, Elements, no_elements, element, item, no_values};
+ghost use Rattle.std.specs.Prelude.{◌↔◌, codes};
 ghost use Rattle.std.specs.Bool.{Decides};
-ghost use Rattle.mm_query.specs.Match.{Equals, HoldsAt, Matches};
+ghost use Rattle.mm_bson.specs.Tree.{document, array, Elements, no_elements, element, item, no_values};
+ghost use Rattle.mm_query.specs.Laws.{NinIsContrary, NeIsContrary};
+ghost use Rattle.mm_query.specs.Match.{Matches};
 ghost use Rattle.mm_query.specs.Selection.{selects};
 
 /// The empty filter matches each document.
@@ -18,10 +18,11 @@ pub fn one_filter_is_itself()
     ensures or { (es d : Elements) → Matches (element (codes "$or") (array (item (document es) no_values)) no_elements) d ↔ Matches es d }
 {}
 
-/// `$nin` is the contrary of `$in`, and `$ne` that of equality.
+/// A document matches `$nin` at a path exactly where it doesn't match `$in`
+/// there, and `$ne` exactly where it hasn't the value.
 pub fn contraries()
-    ensures nin { (u t : Tree) (found : Bool) → HoldsAt Nin u t found ↔ (HoldsAt In u t found → ⊥) }
-    ensures ne { (u t : Tree) (found : Bool) → HoldsAt Ne u t found ↔ (Equals u t → ⊥) }
+    ensures nin { NinIsContrary }
+    ensures ne { NeIsContrary }
 {}
 
 /// Matching can be told: the test `selects` is the relation.

@@ -3,11 +3,12 @@
 //! A `Filter` is seen as its document.
 //! - `Filter::from_doc` takes exactly the documents that are filters. Any other
 //!   it refuses by the first wrong operator in reading order.
-//! - `matches` says whether a document matches. It takes no memory.
+//! - `matches` says whether a document matches, and `matches_in_place` whether
+//!   one in place does, by the same definition. They take no memory.
 //! - `bounds` gives two keys between which lie those of all matching documents
 //!   that have one. An equality on the first path of the specification makes
-//!   them begin with its value; `$gt`, `$gte`, `$lt` and `$lte` there give one
-//!   side each, and `$in` both, of which the tightest counts.
+//!   them begin with its value; else the tightest of what the conditions there
+//!   allow counts: an operand, the end of its class, or nothing at all.
 //!
 //! Not promised: that memory suffices, and that bounds are the narrowest. In
 //! specs/, Form says which documents are filters, Match when a document matches

@@ -105,7 +105,7 @@ fn limit_in<'a>(side: Side, condition: &'a Value, ends: &'a Ends) -> Option<&'a 
     ensures { option_map (λ t. tree t.now) result ≡ limit_in_condition side (tree condition.now) }
 {
     match condition {
-        Value::Document(doc) if has_operators(doc.elements()) => {
+        Value::Document(doc) if has_operators(doc.as_ref().fields()) => {
             limit_among(side, doc.elements(), ends)
         }
         Value::Array(_) => Some(nothing(side, ends)),
