@@ -1,20 +1,26 @@
 //! `dump`: the data file is read back, or what is first wrong with it is told.
 
-use crate::stage::{ONE_INSERT, dump, play, push_insert};
+use crate::stage::{ONE_INSERT, Said, dump, play, push_insert, run, source_of};
 use mm_memdisk::{MemDisk, MemSink};
 use mm_outside::{Device, Disk};
-use std::alloc::Global;
-use std::process::Abort;
+use std::alloc::{AllocError, Global};
 use std::test::Fail;
 
 /// Three inserts of small documents, whose records lie at 8368, 8400 and 8432.
 const THREE_INSERTS: &[u8] =
     b"1 test insert c hex:0e000000105f6964000100000000\n1 test insert c hex:0500000000\n1 test insert c hex:0E000000105F6964000200000000\n";
 
+/// Plays a script and dumps its file: what each said, and the disk's moment then.
+fn play_and_dump(alloc: Global, script: &[u8]) -> Result<(Said, Said, u64), AllocError> {
+    let mut disk = MemDisk::new(alloc);
+    let played = play(alloc, script, &mut disk)?;
+    let dumped = dump(alloc, &mut disk)?;
+    Ok((played, dumped, disk.moment()))
+}
+
 /// The documents are those that were stored, in their order, whatever the digits' case was.
 #[test]
 fn what_was_played_is_printed(rt: HostRuntime) -> Result<(), Fail> {
-    let alloc = rt.alloc();
     let scripts: [(&[u8], &[u8]); 4] = [
         (b"", b""),
         (ONE_INSERT, b"test.c hex:0e000000105f6964000100000000\n"),
@@ -28,86 +34,81 @@ fn what_was_played_is_printed(rt: HostRuntime) -> Result<(), Fail> {
         ),
     ];
     for (script, text) in scripts {
-        let mut disk = MemDisk::new(alloc);
-        let mut replies = MemSink::new(alloc, Vec::new(alloc));
-        let status = play(alloc, script, &mut replies, &mut disk)?;
-        assert_eq!(rt; status.code(), 0);
-        let mut sink = MemSink::new(alloc, Vec::new(alloc));
-        let status = dump(alloc, &mut sink, &mut disk)?;
-        assert_eq!(rt; status.code(), 0);
-        assert_eq!(rt; sink.taken(), text);
-        assert_eq!(rt; disk.moment(), 3);
+        let (played, dumped, moment) = play_and_dump(rt.alloc(), script)?;
+        assert_eq!(rt; (played.code, dumped.code, moment), (0, 0, 3));
+        assert_eq!(rt; dumped.text.as_slice(), text);
     }
     Ok(())
+}
+
+/// A script of documents of these lengths.
+fn script_of(alloc: Global, lens: &[u32]) -> Result<Vec<u8>, AllocError> {
+    let mut script = Vec::new(alloc);
+    for len in lens {
+        push_insert(alloc, &mut script, *len)?;
+    }
+    Ok(script)
 }
 
 /// A document that found no space isn't printed; a record that keeps the last bytes of the extent is.
 #[test]
 fn a_full_file_is_printed(rt: HostRuntime) -> Result<(), Fail> {
-    let alloc = rt.alloc();
-    let mut script = Vec::new(alloc);
-    push_insert(alloc, &mut script, 524_272)?;
-    push_insert(alloc, &mut script, 524_272)?;
-    push_insert(alloc, &mut script, 262_128)?;
-    let mut disk = MemDisk::new(alloc);
-    let mut replies = MemSink::new(alloc, Vec::new(alloc));
-    play(alloc, &script, &mut replies, &mut disk)?;
-    assert_eq!(rt; replies.taken(), b"1 ok 1\n2 NoSpace\n3 ok 1\n".as_slice());
-    let mut sink = MemSink::new(alloc, Vec::new(alloc));
-    let status = dump(alloc, &mut sink, &mut disk)?;
-    assert_eq!(rt; status.code(), 0);
-    assert_eq!(rt; sink.taken().len(), 2 * (524_272 + 262_128) + 2 * 12);
+    let script = script_of(rt.alloc(), &[524_272, 524_272, 262_128])?;
+    let (played, dumped, _) = play_and_dump(rt.alloc(), script.as_slice())?;
+    assert_eq!(rt;
+        played.text.as_slice(),
+        b"1 ok 1\n2 NoSpace\n3 ok 1\n".as_slice()
+    );
+    assert_eq!(rt; dumped.code, 0);
+    assert_eq!(rt; dumped.text.len(), 2 * (524_272 + 262_128) + 2 * 12);
     Ok(())
 }
 
-/// A disk without files has nothing to print.
-#[test]
-fn an_empty_disk_prints_nothing(rt: HostRuntime) -> Result<(), Fail> {
-    let alloc = rt.alloc();
+/// What the dump of a disk with these files says, and the disk's moment then.
+fn dump_with(alloc: Global, names: &[&str]) -> Result<(Said, u64), Device> {
     let mut disk = MemDisk::new(alloc);
-    let mut sink = MemSink::new(alloc, Vec::new(alloc));
-    let status = dump(alloc, &mut sink, &mut disk)?;
-    assert_eq!(rt; status.code(), 0);
-    assert_eq!(rt; sink.taken().len(), 0);
-    assert_eq!(rt; disk.moment(), 0);
-    Ok(())
+    for name in names {
+        disk.create(name)?;
+    }
+    let said = dump(alloc, &mut disk)?;
+    Ok((said, disk.moment()))
 }
 
-/// The first name that isn't the data file's is told, behind the data file too.
+/// A disk without files has nothing to print. The first name that isn't the data file's is told, behind the data file too.
 #[test]
 fn a_stray_file_is_told(rt: HostRuntime) -> Result<(), Fail> {
-    let alloc = rt.alloc();
-    for (names, text) in [
-        (["test.0", "zeta"], b"bad file zeta 0 present\n".as_slice()),
-        (["alpha", "test.0"], b"bad file alpha 0 present\n"),
-        (["test.1", "test.ns"], b"bad file test.1 0 present\n"),
-    ] {
-        let mut disk = MemDisk::new(alloc);
-        for name in names {
-            disk.create(name)?;
-        }
-        let mut sink = MemSink::new(alloc, Vec::new(alloc));
-        let status = dump(alloc, &mut sink, &mut disk)?;
-        assert_eq!(rt; status.code(), 8);
-        assert_eq!(rt; sink.taken(), text);
-        assert_eq!(rt; disk.moment(), 2);
+    let cases: [(&[&str], u8, &[u8], u64); 4] = [
+        (&[], 0, b"", 0),
+        (&["test.0", "zeta"], 8, b"bad file zeta 0 present\n", 2),
+        (&["alpha", "test.0"], 8, b"bad file alpha 0 present\n", 2),
+        (&["test.1", "test.ns"], 8, b"bad file test.1 0 present\n", 2),
+    ];
+    for (names, code, text, at) in cases {
+        let (said, moment) = dump_with(rt.alloc(), names)?;
+        assert_eq!(rt; (said.code, moment), (code, at));
+        assert_eq!(rt; said.text.as_slice(), text);
     }
     Ok(())
 }
 
-/// A data file that is too short or too long by a byte.
+/// What the dump of a data file of this length says.
+fn dump_of_len(alloc: Global, len: u64) -> Result<Said, Device> {
+    let mut disk = MemDisk::new(alloc);
+    play(alloc, ONE_INSERT, &mut disk)?;
+    disk.set_len("test.0", len)?;
+    Ok(dump(alloc, &mut disk)?)
+}
+
+/// A data file that is too short or too long, one of them by a byte.
 #[test]
 fn a_file_of_another_length_is_told(rt: HostRuntime) -> Result<(), Fail> {
-    let alloc = rt.alloc();
     for len in [0, 8192, 1_048_575, 1_048_577, 2_097_152] {
-        let mut disk = MemDisk::new(alloc);
-        let mut replies = MemSink::new(alloc, Vec::new(alloc));
-        play(alloc, ONE_INSERT, &mut replies, &mut disk)?;
-        disk.set_len("test.0", len)?;
-        let mut sink = MemSink::new(alloc, Vec::new(alloc));
-        let status = dump(alloc, &mut sink, &mut disk)?;
-        assert_eq!(rt; status.code(), 8);
-        assert_eq!(rt; sink.taken(), b"bad file test.0 0 file\n".as_slice());
+        let said = dump_of_len(rt.alloc(), len)?;
+        assert_eq!(rt; said.code, 8);
+        assert_eq!(rt;
+            said.text.as_slice(),
+            b"bad file test.0 0 file\n".as_slice()
+        );
     }
     Ok(())
 }
@@ -115,40 +116,27 @@ fn a_file_of_another_length_is_told(rt: HostRuntime) -> Result<(), Fail> {
 /// Bytes that are written over the file of three inserts, and what is told then.
 type Forged = (&'static [(u32, &'static [u8])], &'static [u8]);
 
-// Writes over a file, and answers what was there.
-fn write_over(
-    alloc: Global,
-    disk: &mut MemDisk,
-    changes: &[(u32, &[u8])],
-) -> Result<Vec<(u32, Vec<u8>)>, Device> {
-    let mut kept = Vec::new(alloc);
+/// What the dump says of the file of three inserts with these bytes written over it, and whether it made no change.
+fn dump_forged(alloc: Global, changes: &[(u32, &[u8])]) -> Result<(Said, bool), Device> {
+    let mut disk = MemDisk::new(alloc);
+    play(alloc, THREE_INSERTS, &mut disk)?;
     for (at, bytes) in changes {
-        let mut old = bytes.to_vec(alloc)?;
-        disk.read_at("test.0", u64::from(*at), &mut old)?;
         disk.write_at("test.0", u64::from(*at), bytes)?;
-        kept.push((*at, old))?;
     }
-    Ok(kept)
+    let moment = disk.moment();
+    let said = dump(alloc, &mut disk)?;
+    Ok((said, disk.moment() == moment))
 }
 
-// Each of them is dumped, and the file is put back.
-fn assert_told(rt: &impl Abort, alloc: Global, forged: &[Forged]) -> Result<(), Fail> {
-    let mut disk = MemDisk::new(alloc);
-    let mut replies = MemSink::new(alloc, Vec::new(alloc));
-    play(alloc, THREE_INSERTS, &mut replies, &mut disk)?;
-    for (changes, text) in forged {
-        let kept = write_over(alloc, &mut disk, changes)?;
-        let moment = disk.moment();
-        let mut sink = MemSink::new(alloc, Vec::new(alloc));
-        let status = dump(alloc, &mut sink, &mut disk)?;
-        assert_eq!(rt; sink.taken(), *text);
-        assert_eq!(rt; status.code(), 8);
-        assert_eq!(rt; disk.moment(), moment);
-        for (at, old) in &kept {
-            disk.write_at("test.0", u64::from(*at), old)?;
+/// Dumps each of them, and answers the place in the list of the first that isn't told so.
+fn first_untold(alloc: Global, forged: &[Forged]) -> Result<Option<usize>, Device> {
+    for (i, (changes, text)) in forged.iter().enumerate() {
+        let (said, is_unchanged) = dump_forged(alloc, changes)?;
+        if said.code != 8 || said.text.as_slice() != *text || !is_unchanged {
+            return Ok(Some(i));
         }
     }
-    Ok(())
+    Ok(None)
 }
 
 /// The file's header: its version, its length, where the rest begins, a byte behind its fields. The extent's header: its magic,
@@ -170,7 +158,8 @@ fn forged_headers_are_told(rt: HostRuntime) -> Result<(), Fail> {
         (&[(8225, b"c\0d")], b"bad file test.0 8192 extent\n"),
         (&[(8348, &[1])], b"bad file test.0 8192 extent\n"),
     ];
-    assert_told(&rt, rt.alloc(), &forged)
+    assert_eq!(rt; first_untold(rt.alloc(), &forged)?, None);
+    Ok(())
 }
 
 /// Where the chain begins and ends, links that lead outside or to what is no record, cycles, and records' own headers.
@@ -210,7 +199,8 @@ fn a_forged_chain_is_told(rt: HostRuntime) -> Result<(), Fail> {
         (&[(8368, &[31])], b"bad file test.0 8368 chain\n"),
         (&[(8435, &[255])], b"bad file test.0 8432 chain\n"),
     ];
-    assert_told(&rt, rt.alloc(), &forged)
+    assert_eq!(rt; first_untold(rt.alloc(), &forged)?, None);
+    Ok(())
 }
 
 /// The layout, and the documents.
@@ -232,19 +222,23 @@ fn forged_records_are_told(rt: HostRuntime) -> Result<(), Fail> {
         (&[(8420, &[1])], b"bad file test.0 8400 document\n"),
         (&[(8388, &[0x7e])], b"bad file test.0 8368 document\n"),
     ];
-    assert_told(&rt, rt.alloc(), &forged)
+    assert_eq!(rt; first_untold(rt.alloc(), &forged)?, None);
+    Ok(())
 }
 
-/// The sink fails at its first write.
+/// What a dump says whose sink fails at its first write.
+fn dump_untaken(alloc: Global) -> Result<Said, AllocError> {
+    let mut disk = MemDisk::new(alloc);
+    play(alloc, ONE_INSERT, &mut disk)?;
+    let source = source_of(alloc, b"")?;
+    let sink = MemSink::new(alloc, vec![in alloc; 1]?);
+    run(alloc, &["dump", "F"], source, sink, &mut disk)
+}
+
 #[test]
 fn a_dump_that_is_not_taken_is_told(rt: HostRuntime) -> Result<(), Fail> {
-    let alloc = rt.alloc();
-    let mut disk = MemDisk::new(alloc);
-    let mut replies = MemSink::new(alloc, Vec::new(alloc));
-    play(alloc, ONE_INSERT, &mut replies, &mut disk)?;
-    let mut sink = MemSink::new(alloc, vec![in alloc; 1]?);
-    let status = dump(alloc, &mut sink, &mut disk)?;
-    assert_eq!(rt; status.code(), 6);
-    assert_eq!(rt; sink.taken().len(), 0);
+    let said = dump_untaken(rt.alloc())?;
+    assert_eq!(rt; said.code, 6);
+    assert_eq!(rt; said.text.len(), 0);
     Ok(())
 }
