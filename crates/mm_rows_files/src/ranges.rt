@@ -1,0 +1,121 @@
+//! Sets of places, and parts.
+
+use mm_ranges::{
+    Bytes, Closed, Made, MadeList, NoMemory, Part, Piece, PieceList, RangeIter, RangeSet, RoomSet,
+    last_piece_decides, one_normal_form,
+};
+use std::alloc::{AllocError, Global};
+use std::test::Fail;
+
+fn all(alloc: Global, ranges: RangeIter<'_>) -> Result<Vec<(u32, u32, u32)>, AllocError> {
+    let mut list = Vec::new(alloc);
+    for range in ranges {
+        list.push(range)?;
+    }
+    Ok(list)
+}
+
+fn two_ranges(
+    set: &mut RangeSet,
+    first: (u32, u32, u32),
+    second: (u32, u32, u32),
+) -> Result<(), NoMemory> {
+    for (file, at, len) in [first, second] {
+        if 0 < len && at < 10_000 && len < 10_000 {
+            set.insert(file, at, len)?;
+        }
+    }
+    Ok(())
+}
+
+/// What two ranges that touch weigh.
+fn weight(alloc: Global) -> Result<u64, NoMemory> {
+    let mut set = RangeSet::new(alloc);
+    set.insert(0, 100, 4)?;
+    set.insert(0, 104, 4)?;
+    Ok(set.weight())
+}
+
+/// The ranges of two sets.
+fn merged(alloc: Global) -> Result<Vec<(u32, u32, u32)>, NoMemory> {
+    let mut set = RangeSet::new(alloc);
+    two_ranges(&mut set, (0, 10, 10), (0, 40, 10))?;
+    let mut more = RangeSet::new(alloc);
+    two_ranges(&mut more, (0, 20, 20), (2, 0, 1))?;
+    set.merge(&more)?;
+    one_normal_form(&set, &set);
+    Ok(all(alloc, set.iter())?)
+}
+
+/// The ranges of a set that has room for others, and then those of the same with the others.
+fn with_room(alloc: Global) -> Result<(Vec<(u32, u32, u32)>, Vec<(u32, u32, u32)>), NoMemory> {
+    let mut more = RangeSet::new(alloc);
+    two_ranges(&mut more, (0, 20, 20), (5, 0, 4096))?;
+    let mut set = RoomSet::new(alloc);
+    set.make_room(&more)?;
+    let before = all(alloc, set.iter())?;
+    set.give_back(&more);
+    set.make_room(&more)?;
+    set.merge(&more);
+    Ok((before, all(alloc, set.iter())?))
+}
+
+#[test]
+fn sets(rt: HostRuntime) -> Result<(), Fail> {
+    assert_eq!(rt; weight(rt.alloc())?, 20);
+    let ranges = merged(rt.alloc())?;
+    assert_eq!(rt; ranges.as_slice(), [(0, 10, 40), (2, 0, 1)].as_slice());
+    let (before, after) = with_room(rt.alloc())?;
+    assert_eq!(rt; before.len(), 0);
+    assert_eq!(rt; after.as_slice(), [(0, 20, 20), (5, 0, 4096)].as_slice());
+    Ok(())
+}
+
+fn moves_between_threads<T: Send + Sync>(_: &T) {}
+
+/// A byte that was written over, in a piece.
+fn pieces(alloc: Global) -> Result<PieceList, AllocError> {
+    let mut bytes = Bytes::new(vec![in alloc; 7u8]?);
+    if bytes.len() == 1 && !bytes.is_empty() {
+        bytes.overwrite(0, &[8]);
+    }
+    let mut pieces = Vec::new(alloc);
+    pieces.push(Piece {
+        file: 0,
+        at: 100,
+        bytes,
+    })?;
+    Ok(PieceList::new(pieces))
+}
+
+/// The part of a file that was made and of one piece.
+fn closed(alloc: Global) -> Result<Closed, AllocError> {
+    let pieces = pieces(alloc)?;
+    let made = vec![in alloc; Made { file: 1, len: 4096 }]?;
+    Ok(Closed {
+        section: 1,
+        part: Part {
+            name: Bytes::new(Vec::new(alloc)),
+            made: MadeList::new(made),
+            pieces,
+        },
+        entries: 2,
+    })
+}
+
+#[test]
+fn parts(rt: HostRuntime) -> Result<(), Fail> {
+    let closed = closed(rt.alloc())?;
+    moves_between_threads(&closed);
+    moves_between_threads(&RoomSet::new(rt.alloc()));
+    last_piece_decides(&closed.part.pieces);
+    assert_eq!(rt; closed.part.name.as_slice().len(), 0);
+    assert_eq!(rt;
+        closed.part.made.as_slice(),
+        [Made { file: 1, len: 4096 }].as_slice()
+    );
+    for piece in closed.part.pieces.as_slice() {
+        assert_eq!(rt; piece.bytes.as_slice(), [8].as_slice());
+    }
+    Ok(())
+}
