@@ -1,0 +1,15 @@
+//! Tests of documents, keys and changes: what the cases of `mm_cases` can't show.
+//!
+//! Those try each public call on lines of text. Here stand building and copying, lengths at the limits of a document
+//! and past those of a key, what may go between threads, and the laws. A helper that owns documents makes its calls and
+//! answers plain numbers or bytes; the tests compare.
+#![tactic(auto)]
+
+#[cfg(test)]
+mod documents;
+#[cfg(test)]
+mod laws;
+#[cfg(test)]
+mod lengths;
+#[cfg(test)]
+mod making;
