@@ -47,7 +47,7 @@ module _ (image : Image) (p : Place) (bytes : List ℕ) (n : ℕ) (long : length
   rest_there m = ap (part (p.1 + n) m) (laid_here image p.0 p.1 bytes (omega arith)) ∙ part_behind (p.1 + n) m p.1 bytes (bytes_at image p.0) (omega (arith, long)) (omega arith)
 
 -- a change at the front of a cell
-front_changed : (image : Image) (heap : Heap) (p : Place) (c : Cell) (g : Cell → Cell) (bytes : List ℕ)
+pub front_changed : (image : Image) (heap : Heap) (p : Place) (c : Cell) (g : Cell → Cell) (bytes : List ℕ)
     → IsHeap image heap → heap p ≡ Some c → size (g c) ≡ size c → length bytes ≤ size c
     → Shows (bytes_at (laid p.0 p.1 bytes image) p.0) p.1 (g c) → IsHeap (laid p.0 p.1 bytes image) (change p g heap)
 front_changed image heap p c g bytes is here sizes fits shows =

@@ -1,5 +1,5 @@
 -- What the calls write.
-use Rattle.std.specs.Prelude.{◌≡◌, ℕ, ℤ, pos, negsuc, ◌+◌, ◌<◌, ◌≤◌, false, List, length, Option, Some, None}
+use Rattle.std.specs.Prelude.{◌≡◌, ℕ, ℤ, pos, negsuc, ◌+◌, ◌-◌, ◌<◌, ◌≤◌, false, if◌then◌else◌, List, length, take, drop, Option, Some, None}
 use Rattle.std.specs.FinMap.{get}
 use Rattle.std.specs.Option.{option_map}
 use Rattle.mm_ranges.specs.Places.{inserted}
@@ -9,8 +9,10 @@ use Rattle.mm_base.specs.Bytes.{part, overwritten}
 use Rattle.mm_views.specs.State.{Drafting, weight_in}
 use Rattle.mm_base.specs.Places.{null, place_made}
 use Rattle.mm_base.specs.declared.place.DiskLoc.{DiskLoc}
-use Rattle.mm_links.specs.Links.{Place}
-use Rattle.mm_extents.specs.Heap.{Cell, extent, live, deleted}
+use Rattle.mm_frames.specs.declared.rec_header.RecHeader.{RecHeader}
+use Rattle.mm_frames.specs.declared.deleted_header.DeletedHeader.{DeletedHeader}
+use Rattle.mm_links.specs.Links.{Place, same}
+use Rattle.mm_extents.specs.Heap.{Cell, extent, live, deleted, Heap}
 
 -- Bytes at a place of a file, declared and written: nothing else of the draft changes.
 abbrev pub written : ℕ → ℕ → List ℕ → Drafting → Drafting
@@ -81,6 +83,33 @@ abbrev pub freed : DiskLoc → Cell → Cell
 freed next (extent h) = extent h
 freed next (live h room) = deleted (record { length_with_headers = h.length_with_headers; extent_ofs = h.extent_ofs; next_deleted = next }) room
 freed next (deleted h rest) = deleted h rest
+
+-- a deleted block has another link to the next of its list
+abbrev pub deleted_next_set : DiskLoc → Cell → Cell
+deleted_next_set z (extent h) = extent h
+deleted_next_set z (live h room) = live h room
+deleted_next_set z (deleted h rest) = deleted (record h { next_deleted = z }) rest
+
+-- the block is a live record: its length and its extent stay, and so do the bytes behind its header
+abbrev pub taken : ℤ → ℤ → Cell → Cell
+taken next prev (extent h) = extent h
+taken next prev (live h room) = live h room
+taken next prev (deleted h rest) = live (record { length_with_headers = h.length_with_headers; extent_ofs = h.extent_ofs; next_ofs = next; prev_ofs = prev }) rest
+
+-- what a record is without what stands behind its front r bytes, and what stands there: a deleted block
+abbrev pub front_of : ℕ → RecHeader → List ℕ → Cell
+front_of r h room = live (record h { length_with_headers = pos r }) (take (r - 16) room)
+
+abbrev pub rest_of : ℕ → DeletedHeader → List ℕ → Cell
+rest_of r d room = deleted d (drop r room)
+
+-- the place so many bytes behind another
+abbrev pub behind_of : Place → ℕ → Place
+behind_of p r = (p.0, p.1 + r)
+
+-- two cells at their places, whatever stood there
+abbrev pub put_two : Place → Cell → Place → Cell → Heap → Heap
+put_two p c b d heap q = if same p q then Some c else (if same b q then Some d else heap q)
 
 -- n bytes at a place of a file are declared and written, whatever they are
 pub record IsWritten (file at n : ℕ) (old new : Drafting) : Type 0 where

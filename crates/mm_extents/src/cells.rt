@@ -21,7 +21,7 @@ use mm_frames::{
 use mm_views::Draft;
 
 // Declares and writes bytes.
-fn overwrite(draft: &mut Draft, at: Spot, bytes: &[u8]) -> Result<(), NoMemory>
+pub(crate) fn overwrite(draft: &mut Draft, at: Spot, bytes: &[u8]) -> Result<(), NoMemory>
     requires some { 0 < length bytes.now }
     requires short { length bytes.now ≤ 67108864 }
     requires inside { at.ofs + length bytes.now ≤ length (bytes_at draft.old.image at.file) }

@@ -12,10 +12,12 @@
 //! Where there is no memory all is as it was. Which records and lists there are, and which bytes a payload has, is for the crates above.
 #![tactic(auto)]
 
+mod blocks;
 mod cells;
 mod chains;
 mod places;
 
+pub use blocks::{read_deleted, set_live, set_next_deleted, split_record};
 pub use cells::{
     read_extent, read_record, set_deleted, set_first, set_last, set_next, set_prev, set_room,
     set_xnext, set_xprev,
