@@ -18,3 +18,16 @@ pub mod FreedWhole
 pub mod WalkLaws
 pub mod NextLaws
 pub mod StoreLaws
+pub mod Searches
+pub mod Lists
+pub mod Bare
+pub mod Taken
+pub mod TakenStands
+pub mod TakenCounts
+pub mod Bounds
+pub mod Continues
+pub mod LastLinks
+pub mod TakeSteps
+pub mod Splits
+pub mod Pushed
+pub mod Shortened

@@ -1,6 +1,7 @@
 -- Lists by length, and links as places.
-use Rattle.std.proofs.Common.{◌≡◌, ℕ, ℤ, pos, negsuc, suc, ◌+◌, ◌-◌, ◌*◌, ◌^◌, ◌<◌, ◌≤◌, true, false, sym, ◌∙◌, ap, arith}
+use Rattle.std.proofs.Common.{◌≡◌, ℕ, ℤ, pos, negsuc, suc, ◌+◌, ◌-◌, ◌*◌, ◌^◌, ◌<◌, ◌≤◌, inl, inr, zero, true, false, sym, ◌∙◌, ap, arith}
 use Rattle.std.specs.Prelude.{nat_lt, ◌≤ℤ◌}
+use Rattle.std.proofs.lemmas.Bool.{cases_Bool}
 use Rattle.std.proofs.lemmas.Bool.Decides.{nat_tests}
 use Rattle.std.proofs.Math.Nat.{pow-suc}
 use Rattle.std.proofs.Math.Pow.{pow_mono}
@@ -8,7 +9,7 @@ use Rattle.mm_base.specs.Places.{place_made, null}
 use Rattle.mm_base.specs.declared.place.DiskLoc.{DiskLoc}
 use Rattle.mm_base.proofs.PlaceLaws.{made_again}
 use Rattle.mm_links.proofs.LinkLaws.{if_true, if_false}
-use Rattle.mm_records.specs.Shape.{list_from}
+use Rattle.mm_records.specs.Shape.{list_from, list_for}
 use Rattle.mm_records.specs.Freeing.{loc_in}
 
 pub size_step : (i s : ℕ) → s ≡ 32 * 2 ^ i → s * 2 ≡ 32 * 2 ^ (i + 1)
@@ -44,3 +45,15 @@ link_place q f (negsuc n) le e g = absurd (omega arith)
 
 pub null_place : (f : ℕ) (z : ℤ) (n : ℕ) → z ≡ negsuc n → null ≡ loc_in f z
 null_place f z n e = ap (loc_in f) (sym e)
+
+-- there are nineteen lists
+from_most : (i n len : ℕ) → list_from i n len ≤ i + n
+from_most i zero len = omega arith
+from_most i (suc n) len = elim (cases_Bool (nat_lt len (32 * 2 ^ i))) [
+  | inl y ↦ let e = if_true (nat_lt len (32 * 2 ^ i)) i (list_from (suc i) n len) y in omega (arith, e)
+  | inr m ↦ let e = if_false (nat_lt len (32 * 2 ^ i)) i (list_from (suc i) n len) m in let l = from_most (suc i) n len in omega (arith, e, l)
+]
+
+pub list_low : (len : ℕ) → list_for len < 19
+unfolding list_for
+list_low len = let m = from_most 0 18 len in omega (arith, m)

@@ -5,3 +5,7 @@ pub mod Freeing
 pub mod Passing
 pub mod Map
 pub mod Walking
+pub mod InHand
+pub mod Searching
+pub mod Taking
+pub mod Shortening

@@ -18,7 +18,10 @@ mod freeing;
 mod links;
 mod nodes;
 mod rooms;
+mod search;
+mod shortening;
 mod store;
+mod taking;
 mod walking;
 
 pub use store::RecordStore;
