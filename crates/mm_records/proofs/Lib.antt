@@ -31,3 +31,7 @@ pub mod TakeSteps
 pub mod Splits
 pub mod Pushed
 pub mod Shortened
+pub mod PutBack
+pub mod AddLaws
+pub mod Records
+pub mod Paying

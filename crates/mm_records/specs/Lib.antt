@@ -9,3 +9,4 @@ pub mod InHand
 pub mod Searching
 pub mod Taking
 pub mod Shortening
+pub mod Adding

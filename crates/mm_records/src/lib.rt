@@ -14,6 +14,7 @@
 //! After `NoMemory` the draft is to be dropped. What a payload means, and which nodes are collections, is for the crates above.
 #![tactic(auto)]
 
+mod adding;
 mod freeing;
 mod links;
 mod nodes;
