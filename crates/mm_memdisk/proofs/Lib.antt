@@ -1,3 +1,6 @@
-mod Updates
+pub mod Updates
 mod Names
 mod Writes
+pub mod Torn
+pub mod Steps
+pub mod Leaving

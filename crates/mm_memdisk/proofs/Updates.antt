@@ -1,5 +1,5 @@
 -- A change of the files in memory is the change of the image.
-use Rattle.std.proofs.Common.{◌≡◌, ℕ, Bool, true, false, cond, List, [], Option, Some, None, String, Vec, string_bytes, refl, sym, ◌∙◌, ap, subst}
+use Rattle.std.proofs.Common.{◌≡◌, ℕ, Bool, true, false, cond, List, [], map, Option, Some, None, String, Vec, string_bytes, refl, sym, ◌∙◌, ap, subst}
 use Rattle.std.specs.declared.alloc.Global.{Global}
 use Rattle.std.specs.Option.{option_map, option_map_or}
 use Rattle.std.specs.Str.{bytes_eq}
@@ -8,12 +8,14 @@ use Rattle.std.specs.Ordering.{eq_by_cmp, nat_cmp}
 use Rattle.std.specs.Cmp.{eq_by_cmp_equiv}
 use Rattle.std.specs.Cmp.Lexicographic.{slice_cmp, nat_list_cmp_total}
 use Rattle.std.specs.BTreeMap.{UpdatesBy, get_by_text}
-use Rattle.std.specs.FinMap.{get, insert, remove, get-insert, get-remove}
+use Rattle.std.specs.FinMap.{get, insert, remove, get-insert, get-remove, get-from_entries}
 use Rattle.std.proofs.lemmas.Map.Text.{btree_map_updates_text, is_eq-slice_cmp}
 use Rattle.mm_outside.specs.Image.{Image, name_cmp, with_file}
 use Rattle.mm_outside.specs.Told.{changed, Creates}
 use Rattle.mm_outside.proofs.Places.{one_name}
-use Rattle.mm_memdisk.specs.Files.{Files, Reads, Follows, file_at}
+use Rattle.mm_memdisk.specs.Files.{Files, Reads, Follows, file_at, image_of_entries}
+use Rattle.mm_memdisk.specs.Left.{Puts}
+use Rattle.mm_memdisk.proofs.Names.{find_named}
 
 same_test : (bs q : List ℕ) → bytes_eq bs q ≡ eq_by_cmp name_cmp q bs
 same_test bs q = sym (is_eq-slice_cmp bs q) ∙ (eq_by_cmp_equiv nat_list_cmp_total).symm bs q
@@ -63,3 +65,15 @@ pub kept : (old new : Files) (name : List ℕ) (was v : Vec ℕ Global) → Upda
 kept old new name was v updates some same image reads q =
     let there_before : get image name ≡ Some was.items = sym (reads name) ∙ ap (option_map (λ (v : Vec ℕ Global). v.items)) some in
     after_update old new name (Some v) image updates reads q ∙ same_file image name q v.items _ refl (there_before ∙ ap Some (sym same))
+
+-- ---- what a list of files reads as
+
+pub reads_as : (files : Files) → Reads files (image_of_entries files.entries)
+reads_as files q = sym (get-from_entries nat_list_cmp_total (map (λ (e : String Global × Vec ℕ Global). (string_bytes e.0, e.1.items)) files.entries) q ∙ find_named q files.entries)
+
+-- a file is put in
+pub put_is : (old new : Files) (name : List ℕ) (k : String Global) (v : Vec ℕ Global) (bytes : List ℕ) → UpdatesBy string_cmp (string_cmp k) old new (Some v) → string_bytes k ≡ name → v.items ≡ bytes → Puts name (Some bytes) old new
+put_is old new name k v bytes updates is_name is_bytes q =
+    after_update old new name (Some v) (image_of_entries old.entries) (subst (λ (bs : List ℕ). UpdatesFile bs old new (Some v)) is_name updates) (reads_as old) q
+    ∙ ap (λ (l : List ℕ). cond (eq_by_cmp name_cmp q name) (Some l) (get (image_of_entries old.entries) q)) is_bytes
+    ∙ ap (cond (eq_by_cmp name_cmp q name) (Some bytes)) (sym (reads_as old q))

@@ -1,5 +1,5 @@
 // The changing calls, as they are kept.
-ghost use Rattle.std.specs.Prelude.{◌≡◌, ◌+◌, ◌∷◌, vec_len, OnOk, OnErr, if◌then◌else◌};
+ghost use Rattle.std.specs.Prelude.{◌≡◌, ◌+◌, [], ◌∷◌, ◌++◌, vec_len, OnOk, OnErr, if◌then◌else◌};
 ghost use Rattle.mm_outside.specs.Image.{Image};
 ghost use Rattle.mm_outside.specs.Told.{changed, image_after};
 ghost use Rattle.mm_memdisk.specs.Files.{Reads, Follows};
@@ -67,6 +67,7 @@ pub fn begin(
     ensures ok { OnOk result ((start : Image) → Reads files.old (image_after start (calls_of calls.old.items))
         → Reads files.new (image_after start (calls_of calls.new.items))) }
     ensures calls { OnOk result (calls_of calls.new.items ≡ call_of begun ∷ calls_of calls.old.items) }
+    ensures items { OnOk result (calls.new.items ≡ calls.old.items ++ begun ∷ []) }
     ensures len { OnOk result (vec_len calls.new ≡ vec_len calls.old + 1) }
     ensures err { OnErr result (Follows files.old files.new (λ image. image)) }
     ensures calls_err { OnErr result (calls.new.items ≡ calls.old.items) }

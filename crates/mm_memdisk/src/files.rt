@@ -11,8 +11,8 @@ use std::collections::BTreeMap;
 
 pub type Files = BTreeMap<String, Vec<u8>>;
 
-// Gives the file this length, with zeros behind its old end.
-fn resize(file: &mut Vec<u8>, len: usize) -> Result<(), AllocError>
+/// Gives the file this length, with zeros behind its old end.
+pub fn resize(file: &mut Vec<u8>, len: usize) -> Result<(), AllocError>
     ensures ok { OnOk result (file.new.items ≡ resized len file.old.items) }
     ensures err { OnErr result (file.new.items ≡ file.old.items) }
 {
@@ -27,8 +27,8 @@ fn put(old: &mut [u8], at: usize, bytes: &[u8])
     old[at..at + bytes.len()].copy_from_slice(bytes);
 }
 
-// Puts the bytes over those of the file, and zeros in a gap before them.
-fn overwrite(file: &mut Vec<u8>, at: usize, bytes: &[u8]) -> Result<(), AllocError>
+/// Puts the bytes over those of the file, and zeros in a gap before them.
+pub fn overwrite(file: &mut Vec<u8>, at: usize, bytes: &[u8]) -> Result<(), AllocError>
     requires { at + length bytes.now < 2 ^ 64 }
     ensures ok { OnOk result (file.new.items ≡ overwritten at bytes.now file.old.items) }
     ensures err { OnErr result (file.new.items ≡ file.old.items) }
