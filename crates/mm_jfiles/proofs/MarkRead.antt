@@ -1,7 +1,8 @@
 -- What the lsn file's bytes say, as far as they were read.
-use Rattle.std.proofs.Common.{◌≡◌, ◌≢◌, ℕ, ◌+◌, ◌-◌, ◌^◌, ◌<◌, ◌≤◌, min, List, [], ◌++◌, length, take, drop, Option, Some, None, refl, sym, ap, ◌∙◌, arith, length-append}
+use Rattle.std.proofs.Common.{◌≡◌, ◌≢◌, ℕ, ◌+◌, ◌-◌, ◌^◌, ◌<◌, ◌≤◌, min, inl, inr, List, [], ◌++◌, length, get_or, take, drop, Option, Some, None, refl, sym, ap, ◌∙◌, arith, length-append}
 use Rattle.std.specs.Prelude.{IfSome, IfNone}
-use Rattle.std.proofs.lemmas.List.{take_at, take_all, length-take-le}
+use Rattle.std.proofs.lemmas.List.{take_at, take_all, length-take-le, get_or-take, get_or_past}
+use Rattle.std.proofs.lemmas.Bool.{cases_lt}
 use Rattle.mm_base.specs.Bytes.{zeros}
 use Rattle.mm_base.specs.Fields.{u32_bytes, u64_bytes}
 use Rattle.mm_base.specs.Tables.{joined}
@@ -47,3 +48,12 @@ mark_read file out old n None count is some none = λ lsn fits spelled.
     let few : n ≤ length file = omega (arith, count) in
     let all : length file ≤ n = omega (arith, count, ap length spelled, length-lsn lsn) in
     none lsn fits (front_read file out old n few is ∙ take_all n file all ∙ spelled)
+
+-- what was read of a file are bytes
+pub bytes_read : (file out old : List ℕ) (n : ℕ) → n ≡ min 89 (length file - 0) → out ≡ read_from 0 n file ++ drop n old → ((k : ℕ) → get_or (take n out) k 0 < 256) → (i : ℕ) → i < 89 → get_or file i 0 < 256
+bytes_read file out old n count is are i lt = elim (cases_lt i n) [
+  | inl inside ↦
+      let front : take n out ≡ take n file = front_read file out old n (omega (arith, count)) is in
+      omega (arith, get_or-take n file i 0 inside, ap (λ (l : List ℕ). get_or l i 0) front, are i)
+  | inr past ↦ omega (arith, get_or_past file i 0 (omega (arith, count, past, lt)))
+]

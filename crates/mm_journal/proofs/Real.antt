@@ -1,5 +1,5 @@
 -- The journal's own spelling has the laws that the theory of crashes asks for.
-use Rattle.std.proofs.Common.{◌≡◌, inl, inr, ℕ, zero, suc, Bool, true, false, cond, ◌+◌, ◌-◌, ◌*◌, ◌%◌, ◌^◌, ◌<◌, ◌≤◌, List, [], ◌∷◌, ◌++◌, length, get_or, replicate, refl, sym, ◌∙◌, ap, arith, length-append}
+use Rattle.std.proofs.Common.{◌≡◌, inl, inr, ℕ, zero, suc, Bool, true, false, cond, ◌+◌, ◌-◌, ◌*◌, ◌^◌, ◌<◌, ◌≤◌, List, [], ◌∷◌, ◌++◌, length, get_or, replicate, refl, sym, ◌∙◌, ap, arith, length-append}
 use Rattle.std.specs.Prelude.{◌&&◌, nat_lt, nat_le, nat_eq}
 use Rattle.std.specs.List.{list_all}
 use Rattle.std.specs.Cmp.Lexicographic.{pointwise}
@@ -72,11 +72,18 @@ begins id rest =
     ap (λ (l : List ℕ). pointwise nat_eq l (journal_header_bytes id)) front ∙ nat_list_eq_equiv.refl (journal_header_bytes id) in
     rw (long, same) refl
 
-pub below : (n : ℕ) → n % 2 ^ 64 < 2 ^ 64
-below n = omega arith
+-- a number of 64 bits, and one past them
+pub small : (n : ℕ) → n < 2 ^ 64 → number_bytes n ≡ lsn_bytes n
+small n lt = let yes : nat_lt n (2 ^ 64) ≡ true = grind (arith, nat_tests) in ap (λ (b : Bool). cond b (lsn_bytes n) (n ∷ replicate 87 0)) yes
 
-pub small : (n : ℕ) → n < 2 ^ 64 → n % 2 ^ 64 ≡ n
-small n lt = omega arith
+pub great : (n : ℕ) → 2 ^ 64 ≤ n → number_bytes n ≡ n ∷ replicate 87 0
+great n le = let past : nat_lt n (2 ^ 64) ≡ false = grind (arith, nat_tests) in ap (λ (b : Bool). cond b (lsn_bytes n) (n ∷ replicate 87 0)) past
+
+pub length-number : (n : ℕ) → length (number_bytes n) ≡ 88
+length-number n = elim (cases_lt n (2 ^ 64)) [
+  | inl lt ↦ ap length (small n lt) ∙ length-lsn_bytes n lt
+  | inr le ↦ ap length (great n le)
+]
 
 unfoldable pub the_format : Format
 the_format = record {
@@ -90,9 +97,9 @@ the_format = record {
   short_broken = λ n bytes lt. ap is_broken_kind (short_is_broken (n + 1) bytes (omega (arith, lt, length-header (n + 1))));
   ours_whole = λ n rest. ap is_broken_kind (begins (n + 1) rest);
   number = number_bytes;
-  one = λ m n lt gt is. sym (small m lt) ∙ one_lsn (m % 2 ^ 64) (n % 2 ^ 64) (below m) (below n) is ∙ small n gt;
+  one = λ m n lt gt is. one_lsn m n lt gt (sym (small m lt) ∙ is ∙ small n gt);
   size = 88;
-  sized = λ n. length-lsn_bytes (n % 2 ^ 64) (below n);
+  sized = length-number;
 }
 
 -- ---- names
@@ -161,4 +168,4 @@ speaks = record { header = λ n. refl; long = λ n. length-header (n + 1); journ
 -- the mark's calls are those of the theory
 pub marks_so : (lsn : ℕ) → lsn < 2 ^ 64 → mark_asks lsn ≡ theory.mark_asks the_names.lsn the_format.size (the_format.number lsn)
 unfolding the_format the_names
-marks_so lsn lt = ap (λ n. theory.mark_asks lsn_name 88 (lsn_bytes n)) (sym (small lsn lt))
+marks_so lsn lt = ap (theory.mark_asks lsn_name 88) (sym (small lsn lt))

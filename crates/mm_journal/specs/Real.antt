@@ -1,5 +1,5 @@
 -- The journal's sections, headers and numbers as they are written, for the theory of crashes.
-use Rattle.std.specs.Prelude.{ℕ, ◌+◌, ◌-◌, ◌%◌, ◌^◌, Bool, true, false, ◌&&◌, nat_lt, ◌==◌, if◌then◌else◌, List, ◌++◌, replicate, codes}
+use Rattle.std.specs.Prelude.{ℕ, ◌+◌, ◌-◌, ◌^◌, Bool, true, false, ◌&&◌, nat_lt, ◌==◌, if◌then◌else◌, List, ◌∷◌, ◌++◌, replicate, codes}
 use Rattle.std.specs.Fmt.{decimal}
 use Rattle.std.specs.List.{list_all}
 use Rattle.mm_frames.specs.Lsn.{lsn_bytes}
@@ -25,9 +25,9 @@ is_broken_kind Broken = true
 abbrev pub is_broken : ℕ → List ℕ → Bool
 is_broken n bytes = is_broken_kind (header_kind (n + 1) bytes)
 
--- the lsn file of a number, which has 64 bits
+-- The lsn file of a number. One past 64 bits has none: what stands for it begins with the number itself, which is no byte.
 abbrev pub number_bytes : ℕ → List ℕ
-number_bytes n = lsn_bytes (n % 2 ^ 64)
+number_bytes n = if nat_lt n (2 ^ 64) then lsn_bytes n else n ∷ replicate 87 0
 
 -- ---- names
 
