@@ -1,10 +1,10 @@
 -- What an edit keeps, and where its value is read again.
 use Rattle.std.proofs.Common.{◌≡◌, ℕ, Bool, true, false, cond, List, [], ◌∷◌, Option, Some, None, Ok, Err, refl, sym, ap, ◌∙◌}
-use Rattle.std.specs.Prelude.{option_and_then, ◌&&◌, ◌||◌}
+use Rattle.std.specs.Prelude.{option_and_then, ◌&&◌}
 use Rattle.std.specs.Str.{bytes_eq}
 use Rattle.std.proofs.lemmas.Slice.Eq.{bytes_eq-Decides}
 use Rattle.mm_bson.specs.Tree.{Tree, document, Elements, no_elements, element}
-use Rattle.mm_bson.specs.Path.{names, find, onward as go, value_at}
+use Rattle.mm_bson.specs.Path.{find, onward as go, value_at}
 use Rattle.mm_update.specs.Paths.{leads}
 use Rattle.mm_update.specs.Edited.{Outcome, and_then, mapped, with_value, without, opened, onward, put, inside_only, taken, removed}
 use Rattle.mm_update.proofs.Fields.{bytes_same, find-with_value}

@@ -1,10 +1,10 @@
 -- How long documents and arrays are.
-use Rattle.std.proofs.Common.{◌≡◌, ℕ, suc, ◌+◌, ◌<◌, ◌≤◌, List, [], ◌∷◌, ◌++◌, length, refl, sym, ap, ◌∙◌, arith}
+use Rattle.std.proofs.Common.{◌≡◌, ℕ, ◌+◌, ◌≤◌, List, [], ◌∷◌, ◌++◌, length, ap, ◌∙◌, arith}
 use Rattle.std.specs.Fmt.{decimal}
 use Rattle.std.proofs.lemmas.List.{length-append}
 use Rattle.mm_bson.proofs.Loop.{append_assoc}
 use Rattle.mm_bson.specs.Tree.{Tree, tree_depth, depth, values_depth, Elements, no_elements, element, append, Values, no_values, item, append_values, count}
-use Rattle.mm_bson.specs.Spelling.{type_byte, spelling, array_spelling, elements_spelling, values_spelling, value_spelling, element_len}
+use Rattle.mm_bson.specs.Spelling.{spelling, array_spelling, elements_spelling, values_spelling, value_spelling, element_len}
 use Rattle.mm_bson.proofs.Building.{spelling_len, array_spelling_len, array_spelling_len-push}
 use Rattle.mm_bson.proofs.Numbered.{append_values_assoc}
 

@@ -7,3 +7,4 @@ pub mod Walk
 pub mod Kept
 pub mod Whole
 pub mod Lengths
+pub mod Ordered

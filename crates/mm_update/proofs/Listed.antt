@@ -1,5 +1,5 @@
 -- Lists in memory, one after the other.
-use Rattle.std.proofs.Common.{◌≡◌, true, suc, ◌-◌, ◌<◌, List, [], ◌∷◌, ◌++◌, length, get_or, take, refl, sym, ap, ◌∙◌, arith}
+use Rattle.std.proofs.Common.{◌≡◌, true, suc, ◌-◌, ◌<◌, List, [], ◌∷◌, length, get_or, refl, sym, ap, arith}
 use Rattle.std.proofs.lemmas.List.{take_all}
 use Rattle.mm_bson.specs.declared.doc.Value.{Value}
 use Rattle.mm_bson.specs.declared.doc.Element.{Element}

@@ -1,7 +1,7 @@
 -- Where a step is not the last, and what a fault on the way gives.
-use Rattle.std.proofs.Common.{◌≡◌, ℕ, List, [], ◌∷◌, Option, Some, None, Ok, Err, refl, sym, ap, ◌∙◌}
+use Rattle.std.proofs.Common.{◌≡◌, ℕ, List, Option, Some, refl, ap, ◌∙◌}
 use Rattle.mm_bson.specs.Tree.{Tree, min_key, null, int32, int64, string, document, array, binary, object_id, boolean, date, timestamp, max_key, Elements}
-use Rattle.mm_bson.specs.Path.{names, find, members}
+use Rattle.mm_bson.specs.Path.{names, find}
 use Rattle.mm_update.specs.declared.fault.ChangeFault.{ChangeFault}
 use Rattle.mm_update.specs.declared.fault.ChangeFault.TheVariants.{BadChange, ChangesId, NotNumber, IncOverflow, TooLong, TooDeep, NoMemory}
 use Rattle.mm_update.specs.Edited.{Outcome, and_then, mapped, with_value, opened, onward, put, inside_only, taken, Fails}

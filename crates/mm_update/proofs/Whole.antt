@@ -7,17 +7,17 @@ use Rattle.std.specs.Str.{bytes_eq}
 use Rattle.mm_update.specs.declared.fault.ChangeFault.{ChangeFault}
 use Rattle.mm_update.specs.declared.step.Operator.{Operator}
 use Rattle.mm_update.specs.declared.step.Operator.TheVariants.{Set, Unset, Inc, Push}
-use Rattle.mm_bson.specs.Tree.{Tree, document, Elements, no_elements, element, append, depth}
+use Rattle.mm_bson.specs.Tree.{Tree, Elements, no_elements, element, append, depth}
 use Rattle.mm_bson.specs.Path.{names, find, onward as go, value_at, value_at_path}
-use Rattle.mm_update.specs.Paths.{leads, overlap, overlaps_any, id_name, first_is_id, is_id, has_dollar, has_empty_step}
+use Rattle.mm_update.specs.Paths.{leads, overlap, overlaps_any, id_name, is_id, has_dollar, has_empty_step}
 use Rattle.mm_update.specs.Edit.{Edit, Plan, replacement, edits, plan, paths, edits_in, edits_of, operator_of}
 use Rattle.mm_update.specs.Form.{Place, field, entry, entries, entries_in, places, needs_number, is_number, wrong_field, wrong_edit, or_else, first_wrong, first_operator, form}
-use Rattle.mm_update.specs.Edited.{Outcome, and_then, edit_by, edited, all_edited, value_by, removed}
+use Rattle.mm_update.specs.Edited.{edit_by, edited, all_edited, value_by, removed}
 use Rattle.mm_update.specs.Changed.{finished, changed, replaced, keeps_id, id_field, other_fields}
 use Rattle.mm_update.specs.Laws.{KeepsId, KeepsOthers, SetsValue, FormsApart, AreApart, IsAmong}
 use Rattle.mm_update.proofs.Steps.{some_step}
 use Rattle.mm_update.proofs.Fields.{bytes_same}
-use Rattle.mm_update.proofs.Kept.{same_name, then_ok, put_keeps, removed_keeps, put_reads, find-other}
+use Rattle.mm_update.proofs.Kept.{same_name, then_ok, put_keeps, removed_keeps, put_reads}
 use Rattle.mm_update.proofs.Walk.{entries_are, field_first, first_wrong-entries}
 
 or_left : (a b : Bool) → (a || b) ≡ false → a ≡ false

@@ -1,6 +1,5 @@
 -- The changed document.
-use Rattle.std.specs.Prelude.{ℕ, Bool, true, false, List, Option, Some, None, Ok, Err, nat_le, nat_lt, length, ◌&&◌, if◌then◌else◌}
-use Rattle.std.specs.declared.cmp.Ordering.{Ordering}
+use Rattle.std.specs.Prelude.{Bool, true, false, Option, Some, None, Ok, Err, nat_le, nat_lt, length, ◌&&◌, if◌then◌else◌}
 use Rattle.std.specs.Ordering.{is_eq}
 use Rattle.std.specs.Str.{bytes_eq}
 use Rattle.mm_update.specs.declared.fault.ChangeFault.TheVariants.{ChangesId, TooLong, TooDeep}

@@ -4,7 +4,7 @@ use Rattle.std.proofs.Common.{arith}
 use denote.Param.Weighed.{most}
 use Rattle.mm_bson.specs.Tree.{tree_depth, depth}
 use Rattle.mm_update.specs.declared.draft.Node.{Node}
-use Rattle.mm_update.specs.declared.draft.Node.TheVariants.{Value, Document, Array}
+use Rattle.mm_update.specs.declared.draft.Node.TheVariants.{Document}
 use Rattle.mm_update.specs.declared.draft.Entry.{Entry}
 use Rattle.mm_update.specs.declared.draft.Draft.TheDeep.{deep-Entry, deep-Node}
 use Rattle.mm_update.specs.Drafted.{node_tree, drafted}

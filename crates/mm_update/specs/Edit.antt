@@ -1,10 +1,10 @@
 -- A change by operators is its edits in reading order (MongoDB 2.6, update operators $set, $unset, $inc and $push); any other is a replacement.
-use Rattle.std.specs.Prelude.{ℕ, List, [], ◌∷◌, ◌++◌, Option, Some, None, if◌then◌else◌, codes}
+use Rattle.std.specs.Prelude.{◌≡◌, ℕ, List, [], ◌∷◌, ◌++◌, Option, Some, None, if◌then◌else◌, codes}
 use Rattle.std.specs.Str.{bytes_eq}
 use Rattle.mm_update.specs.declared.step.Operator.{Operator}
 use Rattle.mm_update.specs.declared.step.Operator.TheVariants.{Set, Unset, Inc, Push}
 use Rattle.mm_bson.specs.Tree.{Tree, document, Elements, no_elements, element}
-use Rattle.mm_update.specs.Paths.{has_dollar}
+use Rattle.mm_update.specs.Paths.{has_dollar, overlaps_any}
 
 abbrev pub operator_of : List ℕ → Option Operator
 operator_of name =
@@ -19,6 +19,10 @@ pub record Edit : Type 0 where
 abbrev pub paths : List Edit → List (List ℕ)
 paths [] = []
 paths (e ∷ es) = e.path ∷ paths es
+
+-- what overlaps one of these overlaps the path of an edit
+abbrev pub Knows : List (List ℕ) → List Edit → Type 0
+Knows earlier es = (path : List ℕ) → overlaps_any earlier path ≡ overlaps_any (paths es) path
 
 abbrev pub edits_at : Operator → Elements → List Edit
 edits_at operator no_elements = []

@@ -2,8 +2,7 @@
 use Rattle.std.specs.Prelude.{◌≡◌}
 use Rattle.std.proofs.Common.{refl}
 use Rattle.std.specs.Coded.{Coded}
-use base.Stored.{Gv, gnil, gnum, gcons}
-use Rattle.mm_bson.specs.Tree.{Tree}
+use base.Stored.{Gv, gnum, gcons}
 use Rattle.mm_bson.specs.Code.{text_code, tree_gv, tree_one}
 use Rattle.mm_update.specs.declared.step.Operator.{Operator}
 use Rattle.mm_update.specs.declared.step.Operator.TheVariants.{Set, Unset, Inc, Push}

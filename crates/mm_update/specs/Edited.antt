@@ -1,11 +1,11 @@
 -- What an edit makes of a document (MongoDB 2.6, update operators $set, $unset, $inc and $push).
-use Rattle.std.specs.Prelude.{◌≡◌, ℕ, ◌^◌, ℤ, pos, negsuc, ◌+ℤ◌, Bool, true, false, List, [], ◌∷◌, Option, Some, None, Result, Ok, Err, nat_lt, if◌then◌else◌}
+use Rattle.std.specs.Prelude.{◌≡◌, ℕ, ◌^◌, ℤ, pos, negsuc, ◌+ℤ◌, Bool, List, [], ◌∷◌, Option, Some, None, Result, Ok, Err, nat_lt, if◌then◌else◌}
 use Rattle.std.specs.Str.{bytes_eq}
 use Rattle.mm_update.specs.declared.fault.ChangeFault.{ChangeFault}
 use Rattle.mm_update.specs.declared.fault.ChangeFault.TheVariants.{BadChange, NotNumber, IncOverflow, NoMemory}
 use Rattle.mm_update.specs.declared.step.Operator.{Operator}
-use Rattle.mm_update.specs.declared.step.Operator.TheVariants.{Set, Unset, Inc, Push}
-use Rattle.mm_bson.specs.Tree.{Tree, int32, int64, document, array, Elements, no_elements, element, Values, no_values, item, append_values}
+use Rattle.mm_update.specs.declared.step.Operator.TheVariants.{Unset, Inc, Push}
+use Rattle.mm_bson.specs.Tree.{Tree, int32, int64, document, array, Elements, no_elements, element, no_values, item, append_values}
 use Rattle.mm_bson.specs.Path.{names, find}
 use Rattle.mm_update.specs.Edit.{Edit}
 

@@ -3,7 +3,7 @@ use Rattle.std.specs.Prelude.{◌≡◌, ℕ, Bool, true, false, List, [], ◌�
 use Rattle.mm_update.specs.declared.fault.ChangeFault.{ChangeFault}
 use Rattle.mm_update.specs.declared.fault.ChangeFault.TheVariants.{BadChange, ChangesId, NotNumber, NoMemory}
 use Rattle.mm_update.specs.declared.step.Operator.{Operator}
-use Rattle.mm_update.specs.declared.step.Operator.TheVariants.{Set, Unset, Inc, Push}
+use Rattle.mm_update.specs.declared.step.Operator.TheVariants.{Inc}
 use Rattle.mm_bson.specs.Tree.{Tree, document, Elements, no_elements, element}
 use Rattle.mm_bson.specs.Order.{class}
 use Rattle.mm_update.specs.Paths.{has_dollar, has_empty_step, overlaps_any, is_id}

@@ -1,11 +1,10 @@
 -- What changes keep and reach, in other words than their definition.
-use Rattle.std.specs.Prelude.{◌≡◌, ℕ, Bool, true, false, List, [], ◌∷◌, Option, Some, None, Ok, ◌⊎◌}
+use Rattle.std.specs.Prelude.{◌≡◌, ℕ, false, List, [], ◌∷◌, Some, None, Ok, ◌⊎◌}
 use Rattle.mm_update.specs.declared.step.Operator.TheVariants.{Set}
-use Rattle.mm_bson.specs.Tree.{Tree, Elements}
+use Rattle.mm_bson.specs.Tree.{Elements}
 use Rattle.mm_bson.specs.Path.{find, value_at_path}
-use Rattle.mm_update.specs.Paths.{overlap, overlaps_any, id_name}
+use Rattle.mm_update.specs.Paths.{overlaps_any, id_name}
 use Rattle.mm_update.specs.Edit.{Edit, edits, plan, paths}
-use Rattle.mm_update.specs.Edited.{all_edited}
 use Rattle.mm_update.specs.Changed.{changed}
 use Rattle.mm_update.specs.Form.{form}
 

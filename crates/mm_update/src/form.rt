@@ -1,16 +1,17 @@
 //! What is wrong with a change before any document is seen.
 
-ghost use Rattle.std.specs.Prelude.{◌≡◌, ◌++◌, ◌∷◌, [], true, false, IfOk, OnOk, MatchOption, length};
+ghost use Rattle.std.specs.Prelude.{◌≡◌, ◌++◌, ◌∷◌, ◌||◌, List, ℕ, [], true, false, IfOk, OnOk, MatchOption, length};
 ghost use Rattle.mm_bson.specs.Tree.{document};
 ghost use Rattle.mm_bson.specs.Spelling.{HasNoZero};
 ghost use Rattle.mm_bson.specs.View.{tree, elements_of};
-ghost use Rattle.mm_update.specs.Paths.{overlaps_any as overlaps_some};
-ghost use Rattle.mm_update.specs.Edit.{operator_of as operator_by, edits_at, edits_in, edits_of, paths};
+ghost use Rattle.mm_update.specs.Paths.{overlap, overlaps_any as overlaps_some};
+ghost use Rattle.mm_update.specs.Edit.{operator_of as operator_by, edits_at, edits_in, edits_of, paths, Knows};
 ghost use Rattle.mm_update.specs.Form.{field as field_place, entries, entries_in, places, has_path, is_number as is_number_tree, wrong_edit, first_wrong, first_operator, Passes};
 ghost use Rattle.mm_update.specs.Drafted.{AreNames};
 
+use crate::apart::Apart;
 use crate::fault::{ChangeFault, bad_change, not_number};
-use crate::path::{has_dollar, has_empty_step, is_id, overlaps};
+use crate::path::{has_dollar, has_empty_step, is_id};
 use crate::step::{Operator, Step};
 use mm_bson::{Element, Text, Value, class};
 use std::alloc::{AllocError, Global};
@@ -59,32 +60,24 @@ fn is_number(value: &Value) -> bool
     class(value) == NUMBERS
 }
 
-fn overlaps_any(steps: &[Step], path: &str) -> bool
-    ensures { result ≡ overlaps_some (paths steps.now) path.now }
+/// Looks at an edit behind others, whose paths these are. `NotNumber`,
+/// `ChangesId` and `BadChange` by the rules of its path and operand.
+fn check<'a>(
+    earlier: &mut Apart<'a>,
+    operator: Operator,
+    entry: &'a Element,
+) -> Result<(), ChangeFault>
+    ensures form { Passes result (wrong_edit earlier.old (record { operator = operator; path = entry.now.name; operand = tree entry.now.value })) }
+    ensures one_more { OnOk result ((q : List ℕ) → overlaps_some earlier.new q ≡ (overlap entry.now.name q || overlaps_some earlier.old q)) }
 {
-    let mut rest = steps;
-    while let [first, others @ ..] = rest {
-        if overlaps(first.path().as_str(), path) {
-            return true;
-        }
-        rest = others;
-    }
-    false
-}
-
-/// Looks at an edit behind others. `NotNumber`, `ChangesId` and `BadChange` by
-/// the rules of its path and operand.
-fn check(steps: &[Step], step: &Step) -> Result<(), ChangeFault>
-    ensures { Passes result (wrong_edit (paths steps.now) step.now) }
-{
-    let path = step.path();
-    if has_empty_step(path.as_str()) || overlaps_any(steps, path.as_str()) {
+    let path = &entry.name;
+    if has_empty_step(path.as_str()) || !earlier.put(path)? {
         return Err(bad_change(path));
     }
     if is_id(path.as_str()) {
         return Err(ChangeFault::ChangesId);
     }
-    if step.operator() == Operator::Inc && !is_number(step.operand()) {
+    if operator == Operator::Inc && !is_number(&entry.value) {
         return Err(not_number(path));
     }
     Ok(())
@@ -100,20 +93,22 @@ fn step_of(operator: Operator, entry: &Element) -> Result<Step, AllocError>
 }
 
 /// Puts the edits of an operator behind others, up to the first that is wrong.
-fn add_edits(
+fn add_edits<'a>(
     steps: &mut Vec<Step>,
+    earlier: &mut Apart<'a>,
     operator: Operator,
-    fields: &[Element],
+    fields: &'a [Element],
 ) -> Result<(), ChangeFault>
-    requires { AreNames (elements_of fields.now) }
+    requires names { AreNames (elements_of fields.now) }
+    requires known { Knows earlier.old steps.old.items }
+    ensures known { OnOk result (Knows earlier.new steps.new.items) }
     ensures ok { OnOk result (steps.new.items ≡ steps.old.items ++ edits_at operator (elements_of fields.now)) }
     ensures form { Passes result (first_wrong (paths steps.old.items) (entries (edits_at operator (elements_of fields.now)))) }
 {
     let mut rest = fields;
     while let [first, others @ ..] = rest {
-        let step = step_of(operator, first)?;
-        check(steps.as_slice(), &step)?;
-        steps.push(step)?;
+        check(earlier, operator, first)?;
+        steps.push(step_of(operator, first)?)?;
         rest = others;
     }
     Ok(())
@@ -121,12 +116,18 @@ fn add_edits(
 
 /// Puts the edits of a field behind others, up to the first place that is
 /// wrong.
-fn add_field(steps: &mut Vec<Step>, field: &Element) -> Result<(), ChangeFault>
+fn add_field<'a>(
+    steps: &mut Vec<Step>,
+    earlier: &mut Apart<'a>,
+    field: &'a Element,
+) -> Result<(), ChangeFault>
+    requires { Knows earlier.old steps.old.items }
+    ensures known { OnOk result (Knows earlier.new steps.new.items) }
     ensures ok { OnOk result (steps.new.items ≡ steps.old.items ++ edits_in (operator_by field.now.name) (tree field.now.value)) }
     ensures form { Passes result (first_wrong (paths steps.old.items) (field_place field.now.name (tree field.now.value) ∷ entries_in (operator_by field.now.name) (tree field.now.value))) }
 {
     match (operator_of(field.name.as_bytes()), fields_of(&field.value)) {
-        (Some(operator), Some(fields)) => add_edits(steps, operator, fields),
+        (Some(operator), Some(fields)) => add_edits(steps, earlier, operator, fields),
         _ => Err(bad_change(&field.name)),
     }
 }
@@ -137,9 +138,10 @@ pub(crate) fn edits(alloc: Global, fields: &[Element]) -> Result<Vec<Step>, Chan
     ensures form { Passes result (first_wrong [] (places (elements_of fields.now))) }
 {
     let mut steps = Vec::new(alloc);
+    let mut earlier = Apart::new(alloc);
     let mut rest = fields;
     while let [first, others @ ..] = rest {
-        add_field(&mut steps, first)?;
+        add_field(&mut steps, &mut earlier, first)?;
         rest = others;
     }
     Ok(steps)

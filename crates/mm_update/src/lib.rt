@@ -15,6 +15,7 @@
 //! of a document, Changed what a change does and Laws what it keeps.
 #![tactic(auto)]
 
+mod apart;
 mod apply;
 mod change;
 mod draft;

@@ -3,7 +3,7 @@
 ghost use Rattle.std.specs.Prelude.{◌≡◌, ◌∷◌, ◌<◌, length, IfSome};
 ghost use Rattle.mm_bson.specs.Path.{names};
 ghost use Rattle.mm_bson.specs.Spelling.{HasNoZero};
-ghost use Rattle.mm_update.specs.Paths.{behind, has_dollar as begins_with_dollar, has_empty_step as has_empty_step_in, leads as leads_by, overlap, is_id as is_id_path};
+ghost use Rattle.mm_update.specs.Paths.{behind, has_dollar as begins_with_dollar, has_empty_step as has_empty_step_in, leads as leads_by, is_id as is_id_path};
 
 /// The name whose value tells documents apart, which no change touches.
 pub(crate) const ID: &str = "_id";
@@ -61,7 +61,7 @@ pub(crate) fn has_empty_step(path: &str) -> bool
 }
 
 /// Whether the steps of one path begin the other one, or are all of it.
-fn leads(path: &str, other: &str) -> bool
+pub(crate) fn leads(path: &str, other: &str) -> bool
     ensures { result ≡ leads_by (names path.now) (names other.now) }
 {
     let mut left = path;
@@ -81,13 +81,6 @@ fn leads(path: &str, other: &str) -> bool
             }
         }
     }
-}
-
-/// Whether one of two paths begins with all steps of the other.
-pub(crate) fn overlaps(path: &str, other: &str) -> bool
-    ensures { result ≡ overlap path.now other.now }
-{
-    leads(path, other) || leads(other, path)
 }
 
 /// Whether the path is `_id` or below it.

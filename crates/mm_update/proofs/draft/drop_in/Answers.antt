@@ -1,4 +1,4 @@
-use Rattle.std.proofs.Common.{◌≡◌, length, Some, None, sym, ap, ◌∙◌, arith}
+use Rattle.std.proofs.Common.{◌≡◌, length, Some, sym, ap, ◌∙◌, arith}
 use Rattle.mm_update.specs.Drafted.{place_in, drafted}
 use Rattle.mm_update.proofs.Drafts.{first_at, none_named, find-none-without}
 use Rattle.mm_update.proofs.draft.drop_in.Goals as goal

@@ -1,4 +1,4 @@
-use Rattle.std.proofs.Common.{◌≡◌, ◌+◌, length, Option, ℕ}
+use Rattle.std.proofs.Common.{◌≡◌, ◌+◌, length}
 use Rattle.std.specs.Prelude.{option_map}
 use Rattle.mm_update.specs.Drafted.{place_in}
 use Rattle.mm_update.proofs.draft.place_of.Given as goal

@@ -1,4 +1,4 @@
-use Rattle.std.proofs.Common.{◌≡◌, length, Some, None, sym, ap, ◌∙◌, arith}
+use Rattle.std.proofs.Common.{◌≡◌, length, Some, sym, ap, ◌∙◌, arith}
 use Rattle.mm_bson.specs.Tree.{no_elements, element, append}
 use Rattle.mm_update.specs.Drafted.{place_in, node_tree, drafted}
 use Rattle.mm_update.proofs.Drafts.{first_at, changed_at, none_named, drafted-push, find-none-with_value}

@@ -1,6 +1,6 @@
-use Rattle.std.proofs.Common.{◌≡◌, length, Some, None, sym, ap, ◌∙◌, arith}
+use Rattle.std.proofs.Common.{◌≡◌, length, Some, sym, ap, ◌∙◌, arith}
 use Rattle.mm_update.specs.declared.draft.Node.{Node}
-use Rattle.mm_update.specs.Drafted.{place_in, node_tree, drafted}
+use Rattle.mm_update.specs.Drafted.{place_in, node_tree}
 use Rattle.mm_update.proofs.Drafts.{first_at, found_at, changed_at, none_named}
 use Rattle.mm_update.proofs.draft.take_in.Goals as goal
 

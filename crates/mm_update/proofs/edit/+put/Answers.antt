@@ -1,12 +1,12 @@
-use Rattle.std.proofs.Common.{◌≡◌, Ok, Some, sym, ap, ◌∙◌}
+use Rattle.std.proofs.Common.{sym, ap, ◌∙◌}
 use Rattle.std.proofs.lemmas.Result.{err_from_is_err_and}
 use Rattle.std.specs.Prelude.{option_map}
 use Rattle.mm_bson.specs.Tree.{document}
-use Rattle.mm_bson.specs.Path.{names, find}
+use Rattle.mm_bson.specs.Path.{names}
 use Rattle.mm_update.specs.Paths.{behind}
 use Rattle.mm_update.specs.Drafted.{node_tree}
-use Rattle.mm_update.specs.Edited.{mapped, and_then, opened, onward, put, value_by, with_value}
-use Rattle.mm_update.proofs.Onward.{Fails-mapped, Fails-then, Fails-along, onward_inside, onward_behind}
+use Rattle.mm_update.specs.Edited.{mapped, and_then, opened, put, value_by, with_value}
+use Rattle.mm_update.proofs.Onward.{Fails-mapped, Fails-then, Fails-along, onward_behind}
 use Rattle.mm_update.proofs.edit.+put.Goals as goal
 
 pub put-returns-in_err-node : goal.put-returns-in_err-node

@@ -1,7 +1,7 @@
 use Rattle.std.proofs.Common.{◌≡◌, ◌∷◌, Some, sym, ap, ◌∙◌}
 use Rattle.std.proofs.lemmas.Result.{on_ok_weaker}
 use Rattle.mm_bson.specs.Path.{names, find}
-use Rattle.mm_update.specs.Drafted.{node_tree, inside_document}
+use Rattle.mm_update.specs.Drafted.{node_tree}
 use Rattle.mm_update.specs.Edited.{with_value, removed}
 use Rattle.mm_update.specs.Paths.{behind}
 use Rattle.mm_update.proofs.Onward.{taken_inside, inside_put}

@@ -1,4 +1,4 @@
-use Rattle.std.proofs.Common.{◌≡◌, ◌++◌, ap, ◌∙◌, sym, append_assoc, arith}
+use Rattle.std.proofs.Common.{append_assoc, arith}
 use Rattle.std.proofs.lemmas.Result.{err_from_is_err_and}
 use Rattle.mm_bson.specs.View.{tree, elements_of}
 use Rattle.mm_bson.proofs.Copies.{others}
@@ -28,4 +28,5 @@ loop-rest-preserved c =
     record {
       parts = rw (added, append_assoc steps (edits_in (operator_of first.name) t) (edits_of more)) (rw split at c.loop-rest.invariant.parts);
       wrong = walk_field steps c.add_field.new.steps.items first.name t (places more) _ added c.in_ok-add_field.ensures.form (rw split at c.loop-rest.invariant.wrong);
+      known = c.in_ok-add_field.ensures.known;
     }

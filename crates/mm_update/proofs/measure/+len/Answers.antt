@@ -3,7 +3,7 @@ use Rattle.std.specs.Prelude.{IfSome}
 use Rattle.mm_bson.specs.View.{values_of}
 use Rattle.mm_bson.specs.Spelling.{spelling, array_spelling, elements_spelling, value_spelling}
 use Rattle.mm_bson.proofs.Building.{spelling_len}
-use Rattle.mm_update.specs.Drafted.{drafted, node_tree}
+use Rattle.mm_update.specs.Drafted.{node_tree}
 use Rattle.mm_update.proofs.Listed.{no_entry_left}
 use Rattle.mm_update.proofs.measure.+len.Goals as goal
 

@@ -1,7 +1,6 @@
-use Rattle.std.proofs.Common.{◌∷◌, lit<, ap, sym, ◌∙◌}
+use Rattle.std.proofs.Common.{◌∷◌, lit<, ap, ◌∙◌}
 use Rattle.std.proofs.lemmas.Str.Pattern.{split_parts}
 use Rattle.mm_bson.specs.Path.{names}
-use Rattle.mm_bson.specs.Spelling.{HasNoZero}
 use Rattle.mm_update.proofs.Steps.{names-cut, names-whole, HasNoZero-front, HasNoZero-back}
 use Rattle.mm_update.proofs.path.split.Goals as goal
 

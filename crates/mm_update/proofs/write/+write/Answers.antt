@@ -1,6 +1,6 @@
-use Rattle.std.proofs.Common.{◌≡◌, ◌<◌, suc, length, sym, ap, ◌∙◌, arith}
+use Rattle.std.proofs.Common.{◌≡◌, suc, length, sym, ap, ◌∙◌, arith}
 use Rattle.mm_bson.specs.Tree.{no_elements, element, append, tree_depth, depth}
-use Rattle.mm_bson.specs.Spelling.{element_len, spelling, array_spelling, value_spelling}
+use Rattle.mm_bson.specs.Spelling.{spelling, array_spelling, value_spelling}
 use Rattle.mm_bson.specs.View.{tree, values_of}
 use Rattle.mm_bson.proofs.Loop.{append-none}
 use Rattle.mm_bson.proofs.Copies.{others}

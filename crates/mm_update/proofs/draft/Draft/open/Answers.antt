@@ -3,7 +3,6 @@ use Rattle.mm_bson.specs.Tree.{no_elements, element, append}
 use Rattle.mm_bson.specs.View.{tree, elements_of}
 use Rattle.mm_bson.proofs.Loop.{append_assoc, append-none}
 use Rattle.mm_bson.proofs.Copies.{others}
-use Rattle.mm_update.specs.Drafted.{AreNames}
 use Rattle.mm_update.proofs.Listed.{first_is, none_left}
 use Rattle.mm_update.proofs.Fields.{AreNames-built}
 use Rattle.mm_update.proofs.draft.Draft.open.Goals as goal

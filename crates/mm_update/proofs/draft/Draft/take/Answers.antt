@@ -1,4 +1,4 @@
-use Rattle.std.proofs.Common.{◌≡◌, ap, ◌∙◌}
+use Rattle.std.proofs.Common.{ap, ◌∙◌}
 use Rattle.mm_update.specs.Edited.{with_value}
 use Rattle.mm_update.proofs.Drafts.{names_left, rest_left}
 use Rattle.mm_update.proofs.draft.Draft.take.Goals as goal
