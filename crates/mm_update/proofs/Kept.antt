@@ -33,7 +33,7 @@ find-other n m t (element k u es) e = by (bytes_eq k n) refl (find-other n m t e
 pub find-same : (n m : List ℕ) (t : Tree) (es : Elements) → bytes_eq n m ≡ true → find m (with_value n t es) ≡ Some t
 find-same n m t es e = ap (λ (x : List ℕ). find x (with_value n t es)) (sym (same_name n m e)) ∙ find-with_value n t es
 
-find-without : (n m : List ℕ) (es : Elements) → bytes_eq n m ≡ false → find m (without n es) ≡ find m es
+pub find-without : (n m : List ℕ) (es : Elements) → bytes_eq n m ≡ false → find m (without n es) ≡ find m es
 find-without n m no_elements e = refl
 find-without n m (element k u es) e = by (bytes_eq k n) refl (find-without n m es e)
   where
@@ -96,7 +96,7 @@ removed_deeper : (ms ns : List (List ℕ)) (inner : Elements) → leads ms ns �
 removed_deeper [] ns inner b later = absurd cc
 removed_deeper (m ∷ ms) ns inner b later = later
 
-and_true : (p q : Bool) → p ≡ true → (p && q) ≡ false → q ≡ false
+pub and_true : (p q : Bool) → p ≡ true → (p && q) ≡ false → q ≡ false
 and_true true q e h = h
 and_true false q e h = absurd cc
 

@@ -14,7 +14,7 @@ first_len name t es = omega (arith, length-append (name ++ 0 ∷ []) (value_spel
 pub first_value_len : (i : ℕ) (t : Tree) (vs : Values) → length (values_spelling i (item t vs)) ≡ element_len (decimal i) t + length (values_spelling (i + 1) vs)
 first_value_len i t vs = omega (arith, length-append (decimal i ++ 0 ∷ []) (value_spelling t ++ values_spelling (i + 1) vs), length-append (decimal i) (0 ∷ []), length-append (value_spelling t) (values_spelling (i + 1) vs))
 
-elements_len-append : (a b : Elements) → length (elements_spelling (append a b)) ≡ length (elements_spelling a) + length (elements_spelling b)
+pub elements_len-append : (a b : Elements) → length (elements_spelling (append a b)) ≡ length (elements_spelling a) + length (elements_spelling b)
 elements_len-append no_elements b = omega arith
 elements_len-append (element n t es) b = omega (arith, first_len n t (append es b), first_len n t es, elements_len-append es b)
 

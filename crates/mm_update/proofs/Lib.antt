@@ -8,3 +8,7 @@ pub mod Kept
 pub mod Whole
 pub mod Lengths
 pub mod Ordered
+pub mod Meets
+pub mod Sizes
+pub mod Measures
+pub mod Deep

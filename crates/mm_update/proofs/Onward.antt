@@ -1,10 +1,11 @@
 -- Where a step is not the last, and what a fault on the way gives.
-use Rattle.std.proofs.Common.{◌≡◌, ℕ, List, Option, Some, refl, ap, ◌∙◌}
+use Rattle.std.proofs.Common.{◌≡◌, ℕ, List, Option, Some, Err, refl, ap, ◌∙◌}
 use Rattle.mm_bson.specs.Tree.{Tree, min_key, null, int32, int64, string, document, array, binary, object_id, boolean, date, timestamp, max_key, Elements}
 use Rattle.mm_bson.specs.Path.{names, find}
 use Rattle.mm_update.specs.declared.fault.ChangeFault.{ChangeFault}
 use Rattle.mm_update.specs.declared.fault.ChangeFault.TheVariants.{BadChange, ChangesId, NotNumber, IncOverflow, TooLong, TooDeep, NoMemory}
 use Rattle.mm_update.specs.Edited.{Outcome, and_then, mapped, with_value, opened, onward, put, inside_only, taken, Fails}
+use Rattle.mm_update.specs.Form.{IsFault}
 use Rattle.mm_update.specs.Drafted.{inside_document}
 use Rattle.std.specs.Borrow.{Bor}
 use Rattle.mm_update.specs.Paths.{behind}
@@ -67,3 +68,13 @@ inside_put name inside es t found = rw found (by t found)
     by (date z) found = with_value-back name (date z) es found
     by (timestamp s i) found = with_value-back name (timestamp s i) es found
     by max_key found = with_value-back name max_key es found
+
+-- a fault that a call answers for this one
+pub fault_fails : {X : Type 0} (f g : ChangeFault) (o : Outcome X) → IsFault f g → o ≡ Err g → Fails f o
+fault_fails NoMemory g o h e = tt
+fault_fails (BadChange n) g o h e = cc
+fault_fails ChangesId g o h e = cc
+fault_fails (NotNumber n) g o h e = cc
+fault_fails (IncOverflow n) g o h e = cc
+fault_fails (TooLong n) g o h e = cc
+fault_fails TooDeep g o h e = cc

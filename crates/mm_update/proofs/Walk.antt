@@ -39,7 +39,7 @@ wrong_same : (ps qs : List (List ℕ)) (e : Edit) → overlaps_any ps e.path ≡
 wrong_same ps qs e same =
     ap (λ (over : Bool). cond (has_empty_step e.path) (Some (BadChange e.path)) (cond over (Some (BadChange e.path)) (cond (is_id e.path) (Some ChangesId) (cond (needs_number e.operator && not (is_number e.operand)) (Some (NotNumber e.path)) None)))) same
 
-any_last : (ps : List (List ℕ)) (p q : List ℕ) → overlaps_any (ps ++ p ∷ []) q ≡ (overlap p q || overlaps_any ps q)
+pub any_last : (ps : List (List ℕ)) (p q : List ℕ) → overlaps_any (ps ++ p ∷ []) q ≡ (overlap p q || overlaps_any ps q)
 any_last [] p q = refl
 any_last (x ∷ ps) p q = ap (λ (b : Bool). overlap x q || b) (any_last ps p q) ∙ or_swap (overlap x q) (overlap p q) (overlaps_any ps q)
   where

@@ -42,7 +42,7 @@ by_operator Set path t q es new e apart = put_keeps path (value_by Set path t) (
 by_operator Inc path t q es new e apart = put_keeps path (value_by Inc path t) (names path) (names q) es new e (or_left _ _ apart) (or_right (leads (names path) (names q)) _ apart)
 by_operator Push path t q es new e apart = put_keeps path (value_by Push path t) (names path) (names q) es new e (or_left _ _ apart) (or_right (leads (names path) (names q)) _ apart)
 
-all_keep : (es : List Edit) (old new : Elements) (q : List ℕ) → all_edited es old ≡ Ok new → overlaps_any (paths es) q ≡ false → value_at_path q new ≡ value_at_path q old
+pub all_keep : (es : List Edit) (old new : Elements) (q : List ℕ) → all_edited es old ≡ Ok new → overlaps_any (paths es) q ≡ false → value_at_path q new ≡ value_at_path q old
 all_keep [] old new q e apart =
     let same : old ≡ new = cc in
     ap (value_at_path q) (sym same)
@@ -162,6 +162,9 @@ form_cases (element n t c) es right is = by (has_dollar n) right is
         let same : edits_of (element n t c) ≡ es = cc in
         rw (← same) (entries_apart (edits_of (element n t c)) [] (walked (element n t c) [] right))
     by false right is = absurd cc
+
+pub edits_apart : (c : Elements) → first_wrong [] (places c) ≡ None → AreApart (edits_of c)
+edits_apart c right = (entries_apart (edits_of c) [] (walked c [] right)).1
 
 pub forms_apart : FormsApart
 forms_apart change es right is = (form_cases change es right is).1

@@ -3,6 +3,8 @@ pub mod Edit
 pub mod EditCode
 pub mod Form
 pub mod Edited
+pub mod Meeting
+pub mod Met
 pub mod Changed
 pub mod Drafted
 pub mod DraftFalls

@@ -8,10 +8,16 @@ use Rattle.mm_update.specs.declared.change.Body.{Body}
 use Rattle.mm_update.specs.declared.change.Body.TheVariants.{Replacement, Edits}
 use Rattle.mm_update.specs.Edit.{Edit, Plan, replacement, edits}
 use Rattle.mm_update.specs.EditCode.{edit_code}
+use Rattle.mm_update.specs.Laws.{AreApart}
 
 abbrev pub plan_in : Body → Plan
 plan_in (Replacement d) = replacement d
 plan_in (Edits steps) = edits steps.items
+
+-- the paths of edits are apart
+abbrev pub IsApart : Body → Type 0
+IsApart (Replacement d) = Unit {0}
+IsApart (Edits steps) = AreApart steps.items
 
 abbrev edits_code : Coded (List Edit)
 edits_code = coded_list edit_code

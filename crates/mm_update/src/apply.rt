@@ -14,6 +14,7 @@ use crate::change::{Body, Change};
 use crate::draft::{Draft, Node};
 use crate::edit::edit;
 use crate::fault::ChangeFault;
+use crate::long::{has_long, refused};
 use crate::measure::{is_shallow, len};
 use crate::path::ID;
 use crate::step::Step;
@@ -146,7 +147,14 @@ impl Change {
     pub fn apply(&self, doc: &Doc) -> Result<Doc, ChangeFault>
         ensures { Gives (λ (d : Elements). d) result (changed self.now doc.now) }
     {
-        let draft = carry_out(self.alloc, &self.body, doc)?;
-        finish(self.alloc, &draft)
+        match &self.body {
+            Body::Edits(steps) if has_long(steps.as_slice()) => {
+                Err(refused(self.alloc, steps.as_slice(), doc))
+            }
+            body => {
+                let draft = carry_out(self.alloc, body, doc)?;
+                finish(self.alloc, &draft)
+            }
+        }
     }
 }

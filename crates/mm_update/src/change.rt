@@ -28,13 +28,15 @@ pub struct Change {
 
 impl Model for Change {
     ghost use Rattle.mm_update.specs.Edit.{Plan};
-    ghost use Rattle.mm_update.specs.PlanView.{plan_in, plan_code};
+    ghost use Rattle.mm_update.specs.PlanView.{plan_in, plan_code, IsApart};
 
     ghost Value = { Plan };
 
     ghost coded = { plan_code };
 
     ghost view = { λ c. plan_in c.body };
+
+    ghost invariant = { λ c. IsApart c.body };
 }
 
 impl Change {
@@ -46,13 +48,18 @@ impl Change {
         ensures form { Passes result (form doc.now) }
     {
         let fields = doc.elements();
-        let body = match fields {
-            [first, ..] if has_dollar(first.name.as_bytes()) => Body::Edits(edits(alloc, fields)?),
+        match fields {
+            [first, ..] if has_dollar(first.name.as_bytes()) => Ok(Change {
+                alloc,
+                body: Body::Edits(edits(alloc, fields)?),
+            }),
             _ => {
                 check_replacement(fields)?;
-                Body::Replacement(doc.copy()?)
+                Ok(Change {
+                    alloc,
+                    body: Body::Replacement(doc.copy()?),
+                })
             }
-        };
-        Ok(Change { alloc, body })
+        }
     }
 }

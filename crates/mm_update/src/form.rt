@@ -8,6 +8,7 @@ ghost use Rattle.mm_update.specs.Paths.{overlap, overlaps_any as overlaps_some};
 ghost use Rattle.mm_update.specs.Edit.{operator_of as operator_by, edits_at, edits_in, edits_of, paths, Knows};
 ghost use Rattle.mm_update.specs.Form.{field as field_place, entries, entries_in, places, has_path, is_number as is_number_tree, wrong_edit, first_wrong, first_operator, Passes};
 ghost use Rattle.mm_update.specs.Drafted.{AreNames};
+ghost use Rattle.mm_update.specs.Laws.{AreApart};
 
 use crate::apart::Apart;
 use crate::fault::{ChangeFault, bad_change, not_number};
@@ -135,6 +136,7 @@ fn add_field<'a>(
 /// The edits of a change by operators.
 pub(crate) fn edits(alloc: Global, fields: &[Element]) -> Result<Vec<Step>, ChangeFault>
     ensures ok { IfOk result (λ steps. steps.items ≡ edits_of (elements_of fields.now)) }
+    ensures apart { IfOk result (λ steps. AreApart steps.items) }
     ensures form { Passes result (first_wrong [] (places (elements_of fields.now))) }
 {
     let mut steps = Vec::new(alloc);

@@ -23,6 +23,7 @@ mod edit;
 mod fault;
 mod form;
 mod laws;
+mod long;
 mod measure;
 mod path;
 mod step;

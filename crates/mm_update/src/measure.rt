@@ -44,7 +44,7 @@ fn array_len(values: &[Value]) -> Option<usize>
 }
 
 #[cycle(len)]
-fn node_len(node: &Node) -> Option<usize>
+pub(crate) fn node_len(node: &Node) -> Option<usize>
     ensures { IfSome result (λ n. n ≡ length (value_spelling (node_tree node.now))) }
 {
     match node {

@@ -1,10 +1,12 @@
-use Rattle.std.proofs.Common.{append_assoc, arith}
+use Rattle.std.proofs.Common.{◌≡◌, append_assoc, append-nil, sym, ◌∙◌, arith}
 use Rattle.std.proofs.lemmas.Result.{err_from_is_err_and}
+use Rattle.mm_bson.specs.Tree.{no_elements}
 use Rattle.mm_bson.specs.View.{tree, elements_of}
 use Rattle.mm_bson.proofs.Copies.{others}
 use Rattle.mm_update.specs.Edit.{operator_of, edits_in, edits_of}
 use Rattle.mm_update.specs.Form.{places}
-use Rattle.mm_update.proofs.Listed.{first_is}
+use Rattle.mm_update.proofs.Listed.{first_is, none_left}
+use Rattle.mm_update.proofs.Whole.{edits_apart}
 use Rattle.mm_update.proofs.Walk.{walk_field, field_refused}
 use Rattle.mm_update.proofs.form.edits.Goals as goal
 
@@ -30,3 +32,11 @@ loop-rest-preserved c =
       wrong = walk_field steps c.add_field.new.steps.items first.name t (places more) _ added c.in_ok-add_field.ensures.form (rw split at c.loop-rest.invariant.wrong);
       known = c.in_ok-add_field.ensures.known;
     }
+
+pub returns-clause-apart : goal.returns-clause-apart
+returns-clause-apart c =
+    let steps = c.loop-rest.steps.items in
+    let fields = elements_of c.args.fields.now in
+    let none : elements_of c.loop-rest.rest.now ≡ no_elements = none_left c.loop-rest.rest.now (omega arith) in
+    let all : steps ≡ edits_of fields = sym (append-nil steps) ∙ (rw none at c.loop-rest.invariant.parts) in
+    rw all (edits_apart fields (sym (rw none at c.loop-rest.invariant.wrong)))

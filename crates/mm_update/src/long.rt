@@ -1,0 +1,321 @@
+//! What a change answers where a path has more steps than a document may have
+//! levels: the finished document's length is summed, and it is never made.
+
+ghost use Rattle.std.specs.Prelude.{◌≡◌, ◌<◌, ◌+◌, ◌-◌, length, List, ℕ, drop, option_map, IsTrue, IfOk, IfSome};
+ghost use Rattle.mm_bson.specs.Tree.{Elements};
+ghost use Rattle.mm_bson.specs.Path.{names};
+ghost use Rattle.mm_bson.specs.View.{tree};
+ghost use Rattle.mm_update.specs.Edit.{edits};
+ghost use Rattle.mm_update.specs.Edited.{put, removed, value_by, edited, all_edited, Fails};
+ghost use Rattle.mm_update.specs.Changed.{changed};
+ghost use Rattle.mm_update.specs.Drafted.{node_tree};
+ghost use Rattle.mm_update.specs.Laws.{AreApart};
+ghost use Rattle.mm_update.specs.Meeting.{absent, present, closer, meet, common as common_steps, reached as reached_by, steps_len as len_of_steps, doc_len, tree_len, GivesLen, IsLong, HasLong};
+ghost use Rattle.mm_update.specs.Met.{seen};
+
+use crate::draft::Node;
+use crate::fault::{ChangeFault, bad_change};
+use crate::measure::node_len;
+use crate::path::split;
+use crate::step::{Operator, Step};
+use crate::value::new_value;
+use mm_bson::{Doc, MAX_LEN, MAX_LEVELS, Value};
+use std::alloc::{AllocError, Global};
+
+/// The bytes of a step that is made, but its name: a type byte, a 00, and the
+/// length and final 00 of the document behind it.
+const STEP_LEN: usize = 7;
+
+/// The bytes of a document that has no elements.
+const EMPTY_LEN: usize = 5;
+
+/// How a path meets a document.
+#[derive(Clone, Copy)]
+pub(crate) enum Meeting<'a> {
+    /// So many steps lead to documents, and the next one isn't there.
+    Absent(usize),
+    /// A step before the last leads to another value.
+    Blocked,
+    /// The last step, whose name has so many bytes, leads to a value.
+    Present { name: &'a str, value: &'a Value },
+}
+
+/// How a path meets a document.
+fn meeting_with<'a>(doc: &'a Doc, path: &'a str) -> Meeting<'a>
+    ensures { seen result ≡ meet (names path.now) doc.now }
+{
+    let mut inside = doc;
+    let mut rest = path;
+    let mut kept = 0;
+    loop {
+        let first = split(rest);
+        let Some(value) = inside.find(first.name.as_bytes()) else {
+            return Meeting::Absent(kept);
+        };
+        let Some(behind) = first.rest else {
+            return Meeting::Present {
+                name: first.name,
+                value,
+            };
+        };
+        let Value::Document(inner) = value else {
+            return Meeting::Blocked;
+        };
+        inside = inner;
+        rest = behind;
+        kept += 1;
+    }
+}
+
+/// How many steps two paths have in common at their start.
+fn common(path: &str, other: &str) -> usize
+    ensures { result ≡ common_steps (names path.now) (names other.now) }
+{
+    let mut left = path;
+    let mut right = other;
+    let mut same = 0;
+    loop {
+        let a = split(left);
+        let b = split(right);
+        if a.name.as_bytes() != b.name.as_bytes() {
+            return same;
+        }
+        same += 1;
+        match (a.rest, b.rest) {
+            (Some(after_a), Some(after_b)) => {
+                left = after_a;
+                right = after_b;
+            }
+            _ => return same,
+        }
+    }
+}
+
+/// How many steps of the path are there once these edits are made.
+fn reached(edits: &[Step], path: &str) -> usize
+    ensures { result ≡ reached_by edits.now (names path.now) }
+{
+    let mut most = 0;
+    let mut rest = edits;
+    while let [first, others @ ..] = rest {
+        if first.operator() != Operator::Unset {
+            most = most.max(common(first.path().as_str(), path));
+        }
+        rest = others;
+    }
+    most
+}
+
+/// The bytes of a path's steps but the first `skipped`, each with its name, a
+/// type byte and a 00, and the five of a document behind it. None where that is
+/// past usize.
+fn steps_len(path: &str, skipped: usize) -> Option<usize>
+    ensures { IfSome result (λ n. n ≡ len_of_steps (drop skipped (names path.now))) }
+{
+    let mut len: usize = 0;
+    let mut skip = skipped;
+    let mut rest = Some(path);
+    while let Some(here) = rest {
+        let first = split(here);
+        if skip == 0 {
+            len = len.checked_add(first.name.len())?.checked_add(STEP_LEN)?;
+        } else {
+            skip -= 1;
+        }
+        rest = first.rest;
+    }
+    Some(len)
+}
+
+/// How a path meets a document once these edits are made.
+fn meeting_after<'a>(edits: &[Step], path: &'a str, doc: &'a Doc) -> Meeting<'a>
+    ensures { seen result ≡ closer (reached_by edits.now (names path.now)) (meet (names path.now) doc.now) }
+{
+    match meeting_with(doc, path) {
+        Meeting::Absent(kept) => Meeting::Absent(reached(edits, path).max(kept)),
+        other => other,
+    }
+}
+
+/// A node of the value, where there is one.
+fn node_of(old: Option<&Value>) -> Result<Option<Node>, AllocError>
+    ensures { IfOk result (λ node. option_map node_tree node ≡ option_map (λ v. tree v.now) old.entry) }
+{
+    match old {
+        Some(value) => Ok(Some(Node::Value(value.copy()?))),
+        None => Ok(None),
+    }
+}
+
+/// How many bytes spell what a step makes of a value.
+fn value_len(alloc: Global, step: &Step, old: Option<&Value>) -> Result<usize, ChangeFault>
+    ensures { GivesLen tree_len result (value_by step.now.operator step.now.path step.now.operand (option_map (λ v. tree v.now) old.entry)) }
+{
+    let old = node_of(old)?;
+    match new_value(alloc, step, old) {
+        Ok(node) => match node_len(&node) {
+            Some(len) => Ok(len),
+            None => Err(ChangeFault::NoMemory),
+        },
+        Err(fault) => Err(fault),
+    }
+}
+
+/// The length with a new value in place of an old one.
+fn exchanged(len: usize, new: usize, old: usize) -> Result<usize, AllocError>
+    ensures { IfOk result (λ n. n ≡ len + new - old) }
+{
+    match len.checked_add(new) {
+        Some(sum) => Ok(sum.saturating_sub(old)),
+        None => Err(AllocError),
+    }
+}
+
+/// The length of a document with another value where the step's path leads.
+fn len_replaced(alloc: Global, step: &Step, value: &Value, len: usize) -> Result<usize, ChangeFault>
+    ensures { (name : List ℕ) (es : Elements) → meet (names step.now.path) es ≡ present name (tree value.now) → doc_len es ≡ len
+        → GivesLen doc_len result (put step.now.path (value_by step.now.operator step.now.path step.now.operand) (names step.now.path) es) }
+{
+    match value_len(alloc, step, Some(value)) {
+        Ok(new) => Ok(exchanged(len, new, value.spelled_len())?),
+        Err(fault) => Err(fault),
+    }
+}
+
+/// The length of a document with the steps made that are behind so many.
+fn len_made(alloc: Global, step: &Step, kept: usize, len: usize) -> Result<usize, ChangeFault>
+    ensures { (es : Elements) → meet (names step.now.path) es ≡ absent kept → doc_len es ≡ len
+        → GivesLen doc_len result (put step.now.path (value_by step.now.operator step.now.path step.now.operand) (names step.now.path) es) }
+{
+    let Some(made) = steps_len(step.path().as_str(), kept) else {
+        return Err(ChangeFault::NoMemory);
+    };
+    match value_len(alloc, step, None) {
+        Ok(new) => {
+            let more = exchanged(made, new, 0)?;
+            Ok(exchanged(len, more, EMPTY_LEN)?)
+        }
+        Err(fault) => Err(fault),
+    }
+}
+
+/// The length of a document with the value that a step puts.
+fn len_with(
+    alloc: Global,
+    step: &Step,
+    meeting: Meeting<'_>,
+    len: usize,
+) -> Result<usize, ChangeFault>
+    ensures { (es : Elements) → meet (names step.now.path) es ≡ seen meeting.entry → doc_len es ≡ len
+        → GivesLen doc_len result (put step.now.path (value_by step.now.operator step.now.path step.now.operand) (names step.now.path) es) }
+{
+    match meeting {
+        Meeting::Absent(kept) => len_made(alloc, step, kept, len),
+        Meeting::Blocked => Err(bad_change(step.path())),
+        Meeting::Present { value, .. } => len_replaced(alloc, step, value, len),
+    }
+}
+
+/// The length of a document without the field that a path leads to.
+fn len_without(meeting: Meeting<'_>, len: usize) -> usize
+    ensures { (path : List ℕ) (es : Elements) → meet (names path) es ≡ seen meeting.entry → doc_len es ≡ len → doc_len (removed (names path) es) ≡ result }
+{
+    match meeting {
+        Meeting::Present { name, value } => len
+            .saturating_sub(name.len())
+            .saturating_sub(2)
+            .saturating_sub(value.spelled_len()),
+        Meeting::Absent(_) => len,
+        Meeting::Blocked => len,
+    }
+}
+
+/// The length of a document with an edit made.
+fn len_after(
+    alloc: Global,
+    step: &Step,
+    meeting: Meeting<'_>,
+    len: usize,
+) -> Result<usize, ChangeFault>
+    ensures { (es : Elements) → meet (names step.now.path) es ≡ seen meeting.entry → doc_len es ≡ len → GivesLen doc_len result (edited step.now es) }
+{
+    match step.operator() {
+        Operator::Unset => Ok(len_without(meeting, len)),
+        _ => len_with(alloc, step, meeting, len),
+    }
+}
+
+/// The length of a document with all edits made, which is not made itself.
+fn len_of_all(alloc: Global, steps: &[Step], doc: &Doc) -> Result<usize, ChangeFault>
+    requires { AreApart steps.now }
+    ensures { GivesLen doc_len result (all_edited steps.now doc.now) }
+{
+    let mut len = doc.bytes().len();
+    let mut done = 0;
+    let mut rest = steps;
+    while let [first, others @ ..] = rest {
+        let meeting = meeting_after(&steps[..done], first.path().as_str(), doc);
+        match len_after(alloc, first, meeting, len) {
+            Ok(next) => len = next,
+            Err(fault) => return Err(fault),
+        }
+        done += 1;
+        rest = others;
+    }
+    Ok(len)
+}
+
+/// Whether a path has more steps than a document may have levels.
+fn is_past_levels(path: &str) -> bool
+    ensures { IsTrue result → 100 < length (names path.now) }
+{
+    let mut steps = 0;
+    let mut rest = Some(path);
+    while let Some(here) = rest {
+        if steps == MAX_LEVELS {
+            return true;
+        }
+        steps += 1;
+        rest = split(here).rest;
+    }
+    false
+}
+
+/// Whether an edit makes more steps than a document may have levels.
+fn is_long(step: &Step) -> bool
+    ensures { IsTrue result → IsLong step.now }
+{
+    step.operator() != Operator::Unset && is_past_levels(step.path().as_str())
+}
+
+/// Whether one of the edits makes more steps than a document may have levels.
+pub(crate) fn has_long(steps: &[Step]) -> bool
+    ensures { IsTrue result → HasLong steps.now }
+{
+    let mut rest = steps;
+    while let [first, others @ ..] = rest {
+        if is_long(first) {
+            return true;
+        }
+        rest = others;
+    }
+    false
+}
+
+/// Why a change with such an edit is refused: the first edit that the document
+/// can't have, or else what the finished document would be.
+pub(crate) fn refused(alloc: Global, steps: &[Step], doc: &Doc) -> ChangeFault
+    requires apart { AreApart steps.now }
+    requires long { HasLong steps.now }
+    ensures { Fails result (changed (edits steps.now) doc.now) }
+{
+    match len_of_all(alloc, steps, doc) {
+        Ok(len) => {
+            if len > MAX_LEN {
+                return ChangeFault::TooLong { len: len as u64 };
+            }
+            ChangeFault::TooDeep
+        }
+        Err(fault) => fault,
+    }
+}
