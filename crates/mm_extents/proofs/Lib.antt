@@ -6,3 +6,9 @@ pub mod Spots
 pub mod FileLaws
 pub mod ChainLaws
 pub mod Walks
+pub mod FreeWalks
+pub mod Reuses
+pub mod NewWrites
+pub mod Names
+pub mod Headers
+pub mod ReuseSteps

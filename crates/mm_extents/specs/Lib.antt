@@ -3,3 +3,4 @@ pub mod Changes
 pub mod Files
 pub mod Tiling
 pub mod Chains
+pub mod FreeExtents

@@ -15,6 +15,8 @@
 mod blocks;
 mod cells;
 mod chains;
+mod free_extents;
+mod new_extents;
 mod places;
 
 pub use blocks::{read_deleted, set_live, set_next_deleted, split_record};
@@ -23,4 +25,4 @@ pub use cells::{
     set_xnext, set_xprev,
 };
 pub use chains::next_extent;
-pub use places::{Spot, link, named_spot, natural, place, spot_of};
+pub use places::{Spot, link, named_spot, natural, no_place, place, spot_of};

@@ -1,6 +1,7 @@
 //! Places, as code counts them and as frames have them.
 
 ghost use Rattle.std.specs.Prelude.{◌≡◌, ℕ, pos, negsuc, ◌^◌, ◌<◌, ◌≤ℤ◌, Option, Some, None, IfSome, IfNone};
+ghost use Rattle.mm_base.specs.Places.{null};
 ghost use Rattle.mm_links.specs.Links.{Place};
 ghost use Rattle.mm_extents.specs.Changes.{loc, loc_or, IsLow, LowOr};
 
@@ -39,6 +40,13 @@ pub fn place(at: Spot) -> DiskLoc
         file: at.file as i32,
         ofs: at.ofs as i32,
     }
+}
+
+/// The place that names none.
+pub fn no_place() -> DiskLoc
+    ensures { result ≡ null }
+{
+    DiskLoc::NULL
 }
 
 /// The place in the data files that a frame names, or None where it names none.

@@ -49,6 +49,11 @@ abbrev pub is : Option Place → Place → Bool
 is None p = false
 is (Some x) p = same x p
 
+-- what stands before a place of a chain: another, or nothing before the first
+abbrev pub StandsBefore : List Place → Option Place → Place → Type 0
+StandsBefore xs None p = first_of xs ≡ Some p
+StandsBefore xs (Some x) p = next_in xs x ≡ Some p
+
 -- A doubly linked chain: each place names the one behind it, that one names it, and the first names none before it.
 pub record IsLinked {A : Type 0} (of : Option Place → A) (xs : List Place) (next prev : Place → A) : Type 0 where
   pub no_twice : once xs ≡ true

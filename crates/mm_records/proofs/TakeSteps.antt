@@ -14,7 +14,7 @@ use Rattle.mm_frames.specs.declared.rec_header.RecHeader.{RecHeader}
 use Rattle.mm_frames.specs.declared.deleted_header.DeletedHeader.{DeletedHeader}
 use Rattle.mm_frames.specs.declared.details.Details.{Details}
 use Rattle.mm_views.specs.State.{Drafting}
-use Rattle.mm_links.specs.Links.{Place, same, has, once, first_of, last_of, next_in}
+use Rattle.mm_links.specs.Links.{Place, StandsBefore, same, has, once, first_of, last_of, next_in}
 use Rattle.mm_links.proofs.LinkLaws.{same_of, same_not, next_here, next_there, once_parts, has_last, has_before, has_first}
 use Rattle.mm_extents.specs.Heap.{Cell, extent, live, deleted, Heap, IsHeap, change}
 use Rattle.mm_extents.specs.Changes.{loc, loc_or, ofs_or, IsLow, LowOr, IsWritten, KeepsHeaders, taken}
@@ -31,7 +31,7 @@ use Rattle.mm_records.specs.Passing.{IsLive, HasExtent, LinkFits, Fits}
 use Rattle.mm_records.specs.Freeing.{forward, backward}
 use Rattle.mm_records.specs.InHand.{StandsWith}
 use Rattle.mm_records.specs.Searching.{IsChosen}
-use Rattle.mm_records.specs.Taking.{StandsBefore, list_passed, IsBlockAt, BlockOr, PassFits, IsLastLink, taken_shape, IsTaken}
+use Rattle.mm_records.specs.Taking.{list_passed, IsBlockAt, BlockOr, PassFits, IsLastLink, taken_shape, IsTaken}
 use Rattle.mm_records.proofs.Passing.{Inside, kept_by}
 use Rattle.mm_records.proofs.Bare.{bare, live_bare, extent_bare, bare_next, bare_first}
 use Rattle.mm_records.proofs.Cells.{forward_stays}

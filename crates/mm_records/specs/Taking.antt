@@ -11,11 +11,6 @@ use Rattle.mm_records.specs.Shape.{Shape}
 use Rattle.mm_records.specs.Freeing.{forward, backward}
 use Rattle.mm_records.specs.Map.{live_at}
 
--- what stands before a block of a list: a block, or nothing before the first
-abbrev pub StandsBefore : List Place → Option Place → Place → Type 0
-StandsBefore list None p = first_of list ≡ Some p
-StandsBefore list (Some x) p = next_in list x ≡ Some p
-
 -- the link to a block goes past it: in the block before it
 abbrev pub list_passed : Option Place → DiskLoc → Heap → Heap
 list_passed None next heap = heap
