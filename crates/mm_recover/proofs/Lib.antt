@@ -1,0 +1,3 @@
+pub mod ReadTo
+pub mod LayAsks
+pub mod DiskNames

@@ -1,0 +1,12 @@
+use Rattle.std.proofs.Common.{◌≤◌, [], ◌∷◌, take}
+use Rattle.mm_outside.specs.Ask.{Makes}
+use Rattle.mm_crash.specs.Asks.{lay_asks}
+use Rattle.mm_recover.specs.Laying.{made_entry}
+use Rattle.mm_recover.proofs.LayAsks.{all_entries}
+use Rattle.mm_recover.proofs.laying.lay_made.Given as goal
+
+abbrev pub invariant-loop-made : goal.invariant-loop-made
+invariant-loop-made g l = record {
+  told : Makes (lay_asks (all_entries (λ x. made_entry l.name x ∷ []) (take l.made-index l.all))) (g.D.Disk.told l.fn.disk) (g.D.Disk.told l.disk);
+  faults : g.D.Disk.faults l.fn.disk ≤ g.D.Disk.faults l.disk;
+}

@@ -1,0 +1,23 @@
+use Rattle.std.proofs.Common.{arith}
+use Rattle.mm_jfiles.proofs.Asking.{some_all}
+use Rattle.mm_recover.specs.Laying.{part_entries}
+use Rattle.mm_recover.proofs.LayAsks.{laid_next, laid_cut, laid_done, parts_all, named_at, made_as, some_as}
+use Rattle.mm_recover.proofs.laying.lay_parts.Goals as goal
+
+pub returns-in_err-lay_part-clause-cut : goal.returns-in_err-lay_part-clause-cut
+returns-in_err-lay_part-clause-cut g c = some_as _ _ _ _ (parts_all c.args.parts.now) (laid_cut (part_entries) c.args.parts.now c.loop-part.part-index c.part-item.result c.loop-part-test.true c.part-item.is _ _ _ c.loop-part.invariant.told c.lay_part.ensures.cut)
+
+pub loop-part-preserved : goal.loop-part-preserved
+loop-part-preserved g c = record {
+  told = laid_next (part_entries) c.args.parts.now c.loop-part.part-index c.part-item.result c.loop-part-test.true c.part-item.is _ _ _ c.loop-part.invariant.told c.in_ok-lay_part.ensures.made;
+  faults = omega arith;
+}
+
+pub returns-clause-made : goal.returns-clause-made
+returns-clause-made g c = made_as _ _ _ _ (parts_all c.args.parts.now) (laid_done (part_entries) c.args.parts.now c.loop-part.part-index _ _ c.loop-part-test.false c.loop-part.invariant.told)
+
+pub returns-clause-cut : goal.returns-clause-cut
+returns-clause-cut g c = some_all _ _ _ (returns-clause-made g c)
+
+pub lay_part-requires : goal.lay_part-requires
+lay_part-requires g c = named_at c.args.parts.now c.loop-part.part-index c.part-item.result c.loop-part-test.true c.part-item.is c.requires
