@@ -12,3 +12,4 @@ pub mod Meets
 pub mod Sizes
 pub mod Measures
 pub mod Deep
+pub mod Commons

@@ -1,5 +1,5 @@
 -- The length of a document with several edits made, one after the other.
-use Rattle.std.proofs.Common.{◌≡◌, ℕ, zero, suc, ◌+◌, ◌≤◌, ◌<◌, Bool, true, false, List, [], ◌∷◌, ◌++◌, length, take, Ok, refl, sym, ap, ◌∙◌, append_assoc, add-one, arith}
+use Rattle.std.proofs.Common.{◌≡◌, ℕ, ◌<◌, Bool, true, false, List, [], ◌∷◌, ◌++◌, length, Ok, refl, sym, ap, ◌∙◌, arith}
 use Rattle.std.specs.Prelude.{◌||◌, max}
 use Rattle.mm_bson.specs.Tree.{Elements}
 use Rattle.mm_bson.specs.Path.{names}
@@ -8,7 +8,7 @@ use Rattle.mm_update.specs.Paths.{leads, overlap, overlaps_any}
 use Rattle.mm_update.specs.Edit.{Edit, paths}
 use Rattle.mm_update.specs.Edited.{Outcome, and_then, edited, all_edited, Fails}
 use Rattle.mm_update.specs.Laws.{AreApart}
-use Rattle.mm_update.specs.Meeting.{meet, reach, reached, closer, doc_len, ArePast, Measured}
+use Rattle.mm_update.specs.Meeting.{meet, reach, reached, closer, most_common, doc_len, ArePast, Measured, MeasuredBy}
 use Rattle.mm_update.proofs.Walk.{paths-append, any_last}
 use Rattle.mm_update.proofs.Onward.{Fails-then, Fails-along}
 use Rattle.mm_update.proofs.Meets.{closer-none, closer-twice, edit_meets}
@@ -29,7 +29,7 @@ past_none : (es : List Edit) → ArePast [] es
 past_none [] = tt
 past_none (e ∷ es) = (refl, past_none es)
 
-pub measured_first : (es : List Edit) (old : Elements) → AreApart es → Measured [] es old (all_edited es old) (doc_len old)
+measured_first : (es : List Edit) (old : Elements) → AreApart es → Measured [] es old (all_edited es old) (doc_len old)
 measured_first es old apart = record {
   doc = old;
   told = refl;
@@ -53,13 +53,13 @@ past_on done e (x ∷ others) past apart =
     (overlaps_last done e x.path ∙ rw (here, past.0) refl, past_on done e others past.1 (or_right (overlap x.path e.path) (overlaps_any (paths others) e.path) apart))
 
 module _ (done : List Edit) (e : Edit) (others : List Edit) (old : Elements) (whole : Outcome Elements) (len : ℕ) (m : Measured done (e ∷ others) old whole len) where
-  pub measured_meets : meet (names e.path) m.doc ≡ closer (reached done (names e.path)) (meet (names e.path) old)
+  measured_meets : meet (names e.path) m.doc ≡ closer (reached done (names e.path)) (meet (names e.path) old)
   measured_meets = m.met e.path m.past.0
 
-  pub measured_fails : (f : ChangeFault) → Fails f (edited e m.doc) → Fails f whole
+  measured_fails : (f : ChangeFault) → Fails f (edited e m.doc) → Fails f whole
   measured_fails f h = Fails-along f (and_then (all_edited others) (edited e m.doc)) whole m.told (Fails-then (all_edited others) f (edited e m.doc) h)
 
-  pub measured_on : (next : ℕ) → ((new : Elements) × (edited e m.doc ≡ Ok new) × (doc_len new ≡ next)) → Measured (done ++ e ∷ []) others old whole next
+  measured_on : (next : ℕ) → ((new : Elements) × (edited e m.doc ≡ Ok new) × (doc_len new ≡ next)) → Measured (done ++ e ∷ []) others old whole next
   measured_on next g = record {
     doc = g.0;
     told = ap (and_then (all_edited others)) (sym g.1) ∙ m.told;
@@ -72,33 +72,38 @@ module _ (done : List Edit) (e : Edit) (others : List Edit) (old : Elements) (wh
     apart = m.apart.1;
   }
 
--- the front of a list, and one more of it
-pub take_next : (xs : List Edit) (k : ℕ) (x : Edit) (rest : List Edit) → take k xs ++ x ∷ rest ≡ xs → take (k + 1) xs ≡ take k xs ++ x ∷ []
-take_next xs k x rest is = rw add-one (by xs k is)
-  where
-    by : (xs : List Edit) (k : ℕ) → take k xs ++ x ∷ rest ≡ xs → take (suc k) xs ≡ take k xs ++ x ∷ []
-    by [] zero is = absurd cc
-    by [] (suc k) is = absurd cc
-    by (y ∷ ys) zero is =
-        let same : y ≡ x = cc in
-        ap (λ (z : Edit). z ∷ []) same
-    by (y ∷ ys) (suc k) is = ap (λ (zs : List Edit). y ∷ zs) (by ys k cc)
-
-pub parts_on : (xs : List Edit) (k : ℕ) (x : Edit) (rest : List Edit) → take k xs ++ x ∷ rest ≡ xs → take (k + 1) xs ++ rest ≡ xs
-parts_on xs k x rest is = ap (λ (front : List Edit). front ++ rest) (take_next xs k x rest is) ∙ append_assoc (take k xs) (x ∷ []) rest ∙ is
-
-pub more_left : (xs : List Edit) (k : ℕ) (x : Edit) (rest : List Edit) → take k xs ++ x ∷ rest ≡ xs → k + 1 ≤ length xs
-more_left xs k x rest is = rw add-one (by xs k is)
-  where
-    by : (xs : List Edit) (k : ℕ) → take k xs ++ x ∷ rest ≡ xs → suc k ≤ length xs
-    by [] zero is = absurd cc
-    by [] (suc k) is = absurd cc
-    by (y ∷ ys) zero is = omega arith
-    by (y ∷ ys) (suc k) is = omega (arith, by ys k cc)
-
 pub no_edit_left : (xs : List Edit) → length xs < 1 → xs ≡ []
 no_edit_left [] lt = refl
 no_edit_left (x ∷ xs) lt = absurd (omega arith)
 
-pub measured_last : (done rest : List Edit) (old : Elements) (whole : Outcome Elements) (len : ℕ) → Measured done rest old whole len → rest ≡ [] → (new : Elements) × (whole ≡ Ok new) × (doc_len new ≡ len)
+measured_last : (done rest : List Edit) (old : Elements) (whole : Outcome Elements) (len : ℕ) → Measured done rest old whole len → rest ≡ [] → (new : Elements) × (whole ≡ Ok new) × (doc_len new ≡ len)
 measured_last done rest old whole len m none = (m.doc, sym m.told ∙ ap (λ (es : List Edit). all_edited es m.doc) none, m.counted)
+
+-- ---- with the paths that are made so far
+
+pub by_first : (es : List Edit) (old : Elements) (len : ℕ) → AreApart es → doc_len old ≡ len → MeasuredBy [] es old (all_edited es old) len
+by_first es old len apart counted = rw (← counted) (record { done = []; measured = measured_first es old apart; made = λ ms. refl; free = λ q none. refl })
+
+module _ (makers : List (List ℕ)) (e : Edit) (others : List Edit) (old : Elements) (whole : Outcome Elements) (len : ℕ) (m : MeasuredBy makers (e ∷ others) old whole len) where
+  pub by_meets : meet (names e.path) m.measured.doc ≡ closer (most_common makers (names e.path)) (meet (names e.path) old)
+  by_meets = measured_meets m.done e others old whole len m.measured ∙ ap (λ (n : ℕ). closer n (meet (names e.path) old)) (sym (m.made (names e.path)))
+
+  pub by_fails : (f : ChangeFault) → Fails f (edited e m.measured.doc) → Fails f whole
+  by_fails f h = measured_fails m.done e others old whole len m.measured f h
+
+  pub by_free : overlaps_any makers e.path ≡ false
+  by_free = m.free e.path m.measured.past.0
+
+  pub by_on : (new : List (List ℕ)) (next : ℕ) → ((doc : Elements) × (edited e m.measured.doc ≡ Ok doc) × (doc_len doc ≡ next)) → ((ms : List (List ℕ)) → most_common new ms ≡ max (reach e ms) (most_common makers ms))
+      → ((q : List ℕ) → overlap e.path q ≡ false → overlaps_any makers q ≡ false → overlaps_any new q ≡ false) → MeasuredBy new others old whole next
+  by_on new next g more free = record {
+    done = m.done ++ e ∷ [];
+    measured = measured_on m.done e others old whole len m.measured next g;
+    made = λ ms. omega (arith, more ms, m.made ms, reached_last m.done e ms);
+    free = λ q none.
+        let both : (overlap e.path q || overlaps_any (paths m.done) q) ≡ false = sym (overlaps_last m.done e q) ∙ none in
+        free q (or_left (overlap e.path q) (overlaps_any (paths m.done) q) both) (m.free q (or_right (overlap e.path q) (overlaps_any (paths m.done) q) both));
+  }
+
+pub by_last : (makers : List (List ℕ)) (rest : List Edit) (old : Elements) (whole : Outcome Elements) (len : ℕ) → MeasuredBy makers rest old whole len → rest ≡ [] → (new : Elements) × (whole ≡ Ok new) × (doc_len new ≡ len)
+by_last makers rest old whole len m none = measured_last m.done rest old whole len m.measured none

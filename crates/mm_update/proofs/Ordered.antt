@@ -15,16 +15,16 @@ use Rattle.mm_update.proofs.Fields.{bytes_same}
 use Rattle.mm_update.proofs.Kept.{same_name}
 use Rattle.mm_update.proofs.Steps.{some_step}
 
-steps_total : IsTotalOrder by_steps
+pub steps_total : IsTotalOrder by_steps
 steps_total = lists_total nat_list_cmp_total
 
 name_total : IsTotalOrder (slice_cmp nat_cmp)
 name_total = nat_list_cmp_total
 
-equal_names : (a b : List ℕ) → slice_cmp nat_cmp a b ≡ Equal → a ≡ b
+pub equal_names : (a b : List ℕ) → slice_cmp nat_cmp a b ≡ Equal → a ≡ b
 equal_names a b e = same_name a b (sym (is_eq-slice_cmp a b) ∙ ap is_eq e)
 
-equal_itself : (a : List ℕ) → slice_cmp nat_cmp a a ≡ Equal
+pub equal_itself : (a : List ℕ) → slice_cmp nat_cmp a a ≡ Equal
 equal_itself a = by (slice_cmp nat_cmp a a) refl
   where
     by : (o : Ordering) → slice_cmp nat_cmp a a ≡ o → o ≡ Equal
@@ -51,12 +51,12 @@ leading_first (x ∷ a) (y ∷ b) is e =
     leading_first a b both.1 (ap (λ (o : Ordering). ordering_then o (by_steps a b)) (sym same) ∙ e)
 
 -- what lies between a path and one to which it leads, it leads to as well
-then_first : (o p : Ordering) → ordering_then o p ≢ Greater → o ≢ Greater
+pub then_first : (o p : Ordering) → ordering_then o p ≢ Greater → o ≢ Greater
 then_first Greater p h e = h refl
 then_first Less p h e = cc
 then_first Equal p h e = cc
 
-middle_equal : (x y : List ℕ) → slice_cmp nat_cmp x y ≢ Greater → slice_cmp nat_cmp y x ≢ Greater → slice_cmp nat_cmp x y ≡ Equal
+pub middle_equal : (x y : List ℕ) → slice_cmp nat_cmp x y ≢ Greater → slice_cmp nat_cmp y x ≢ Greater → slice_cmp nat_cmp x y ≡ Equal
 middle_equal x y h k = by (slice_cmp nat_cmp x y) refl h
   where
     by : (o : Ordering) → slice_cmp nat_cmp x y ≡ o → o ≢ Greater → o ≡ Equal

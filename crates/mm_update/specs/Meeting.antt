@@ -1,5 +1,5 @@
 -- How a path meets a document, and what an edit at it adds to the document's length.
-use Rattle.std.specs.Prelude.{◌≡◌, ◌≢◌, ◌<◌, ◌⊎◌, ℕ, suc, ◌+◌, max, false, List, [], ◌∷◌, Option, Some, None, Ok, Err, length, if◌then◌else◌}
+use Rattle.std.specs.Prelude.{◌≡◌, ◌≢◌, ◌<◌, ◌⊎◌, ℕ, zero, suc, ◌+◌, max, false, List, [], ◌∷◌, Option, Some, None, Ok, Err, length, if◌then◌else◌}
 use Rattle.std.specs.Str.{bytes_eq}
 use Rattle.mm_bson.specs.Tree.{Tree, document, Elements}
 use Rattle.mm_bson.specs.Path.{names, find}
@@ -61,6 +61,23 @@ abbrev pub reached : List Edit → List (List ℕ) → ℕ
 reached [] others = 0
 reached (e ∷ es) others = max (reach e others) (reached es others)
 
+-- how many steps of a path are there once these paths are
+abbrev pub most_common : List (List ℕ) → List (List ℕ) → ℕ
+most_common [] others = 0
+most_common (p ∷ ps) others = max (common (names p) others) (most_common ps others)
+
+-- the same of the two neighbours of its place alone
+abbrev pub common_before : List ℕ → ℕ → List (List ℕ) → ℕ
+common_before q zero ps = 0
+common_before q (suc k) [] = 0
+common_before q (suc zero) (p ∷ ps) = common (names p) (names q)
+common_before q (suc (suc k)) (p ∷ ps) = common_before q (suc k) ps
+
+abbrev pub common_at : List ℕ → ℕ → List (List ℕ) → ℕ
+common_at q k [] = 0
+common_at q zero (p ∷ ps) = common (names p) (names q)
+common_at q (suc k) (p ∷ ps) = common_at q k ps
+
 -- so many steps are there at least
 abbrev pub closer : ℕ → Meeting → Meeting
 closer n (absent k) = absent (max n k)
@@ -100,6 +117,13 @@ pub record Measured (done rest : List Edit) (old : Elements) (whole : Outcome El
   pub met : (q : List ℕ) → overlaps_any (paths done) q ≡ false → meet (names q) doc ≡ closer (reached done (names q)) (meet (names q) old)
   pub past : ArePast (paths done) rest
   pub apart : AreApart rest
+
+-- some edits are made, and these are the paths that they make
+pub record MeasuredBy (makers : List (List ℕ)) (rest : List Edit) (old : Elements) (whole : Outcome Elements) (len : ℕ) : Type 0 where
+  pub done : List Edit
+  pub measured : Measured done rest old whole len
+  pub made : (ms : List (List ℕ)) → most_common makers ms ≡ reached done ms
+  pub free : (q : List ℕ) → overlaps_any (paths done) q ≡ false → overlaps_any makers q ≡ false
 
 -- an edit that makes more steps than a document may have levels
 abbrev pub IsLong : Edit → Type 0

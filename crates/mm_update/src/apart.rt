@@ -1,7 +1,8 @@
 //! Paths of which no two overlap, in the order of their steps.
 
-ghost use Rattle.std.specs.Prelude.{◌≡◌, ◌≤◌, ◌||◌, true, false, length, map, not, IsTrue, IfOk, List, ℕ};
+ghost use Rattle.std.specs.Prelude.{◌≡◌, ◌≤◌, ◌||◌, true, false, length, map, not, max, IsTrue, IfOk, List, ℕ};
 ghost use Rattle.mm_update.specs.Paths.{by_steps as by_steps_of, leads as leads_by, overlap, overlaps_any, AreInOrder, IsPlace, IsFreeAt, IsFreeBefore, IsFree};
+ghost use Rattle.mm_update.specs.Meeting.{common as common_by, most_common, common_before as common_before_by, common_at as common_at_by};
 ghost use Rattle.mm_bson.specs.Path.{names};
 
 use crate::path::{leads, split};
@@ -88,6 +89,51 @@ fn overlaps_at(paths: &[&Text], place: usize, path: &Text) -> bool
     leads_at(paths, place, path)
 }
 
+/// How many steps two paths have in common at their start.
+fn common(path: &str, other: &str) -> usize
+    ensures { result ≡ common_by (names path.now) (names other.now) }
+{
+    let mut left = path;
+    let mut right = other;
+    let mut same = 0;
+    loop {
+        let a = split(left);
+        let b = split(right);
+        if a.name.as_bytes() != b.name.as_bytes() {
+            return same;
+        }
+        same += 1;
+        match (a.rest, b.rest) {
+            (Some(after_a), Some(after_b)) => {
+                left = after_a;
+                right = after_b;
+            }
+            _ => return same,
+        }
+    }
+}
+
+/// How many steps a path has in common with the one before its place.
+fn common_before(paths: &[&Text], place: usize, path: &Text) -> usize
+    requires { place ≤ length paths.now }
+    ensures { result ≡ common_before_by path.now place (map (λ t. t.now) paths.now) }
+{
+    if place == 0 {
+        return 0;
+    }
+    common(paths[place - 1].as_str(), path.as_str())
+}
+
+/// How many steps a path has in common with the one at the place.
+fn common_at(paths: &[&Text], place: usize, path: &Text) -> usize
+    ensures { result ≡ common_at_by path.now place (map (λ t. t.now) paths.now) }
+{
+    if place >= paths.len() {
+        return 0;
+    }
+    common(paths[place].as_str(), path.as_str())
+}
+
 /// Paths that are apart, seen as their list in the order of their steps.
 #[derive(Drop)]
 pub(crate) struct Apart<'a> {
@@ -112,6 +158,15 @@ impl<'a> Model for Apart<'a> {
 impl<'a> Apart<'a> {
     ghost use Rattle.std.specs.Prelude.{[]};
 
+    /// How many steps a path has in common with one of these at most.
+    pub(crate) fn common(&self, path: &Text) -> usize
+        ensures { result ≡ most_common self.now (names path.now) }
+    {
+        let paths = self.paths.as_slice();
+        let place = place_of(paths, path);
+        common_before(paths, place, path).max(common_at(paths, place, path))
+    }
+
     /// No paths. It takes no memory.
     pub(crate) fn new(alloc: Global) -> Apart<'a>
         ensures { result ≡ [] }
@@ -126,6 +181,7 @@ impl<'a> Apart<'a> {
     pub(crate) fn put(&mut self, path: &'a Text) -> Result<bool, AllocError>
         ensures answer { IfOk result (λ put. put ≡ not (overlaps_any self.old path.now)) }
         ensures one_more { IfOk result (λ put. IsTrue put → (q : List ℕ) → overlaps_any self.new q ≡ (overlap path.now q || overlaps_any self.old q)) }
+        ensures common { IfOk result (λ put. IsTrue put → (ms : List (List ℕ)) → most_common self.new ms ≡ max (common_by (names path.now) ms) (most_common self.old ms)) }
     {
         let place = place_of(self.paths.as_slice(), path);
         if overlaps_at(self.paths.as_slice(), place, path) {

@@ -1,25 +1,27 @@
 //! What a change answers where a path has more steps than a document may have
 //! levels: the finished document's length is summed, and it is never made.
 
-ghost use Rattle.std.specs.Prelude.{◌≡◌, ◌<◌, ◌+◌, ◌-◌, length, List, ℕ, drop, option_map, IsTrue, IfOk, IfSome};
+ghost use Rattle.std.specs.Prelude.{◌≡◌, ◌<◌, ◌+◌, ◌-◌, length, max, false, List, ℕ, drop, option_map, IsTrue, IfOk, OnOk, IfSome};
 ghost use Rattle.mm_bson.specs.Tree.{Elements};
 ghost use Rattle.mm_bson.specs.Path.{names};
 ghost use Rattle.mm_bson.specs.View.{tree};
+ghost use Rattle.mm_update.specs.Paths.{overlap, overlaps_any};
 ghost use Rattle.mm_update.specs.Edit.{edits};
 ghost use Rattle.mm_update.specs.Edited.{put, removed, value_by, edited, all_edited, Fails};
 ghost use Rattle.mm_update.specs.Changed.{changed};
 ghost use Rattle.mm_update.specs.Drafted.{node_tree};
 ghost use Rattle.mm_update.specs.Laws.{AreApart};
-ghost use Rattle.mm_update.specs.Meeting.{absent, present, closer, meet, common as common_steps, reached as reached_by, steps_len as len_of_steps, doc_len, tree_len, GivesLen, IsLong, HasLong};
+ghost use Rattle.mm_update.specs.Meeting.{absent, present, closer, meet, reach, most_common, steps_len as len_of_steps, doc_len, tree_len, GivesLen, IsLong, HasLong};
 ghost use Rattle.mm_update.specs.Met.{seen};
 
+use crate::apart::Apart;
 use crate::draft::Node;
 use crate::fault::{ChangeFault, bad_change};
 use crate::measure::node_len;
 use crate::path::split;
 use crate::step::{Operator, Step};
 use crate::value::new_value;
-use mm_bson::{Doc, MAX_LEN, MAX_LEVELS, Value};
+use mm_bson::{Doc, MAX_LEN, MAX_LEVELS, Text, Value};
 use std::alloc::{AllocError, Global};
 
 /// The bytes of a step that is made, but its name: a type byte, a 00, and the
@@ -67,45 +69,6 @@ fn meeting_with<'a>(doc: &'a Doc, path: &'a str) -> Meeting<'a>
     }
 }
 
-/// How many steps two paths have in common at their start.
-fn common(path: &str, other: &str) -> usize
-    ensures { result ≡ common_steps (names path.now) (names other.now) }
-{
-    let mut left = path;
-    let mut right = other;
-    let mut same = 0;
-    loop {
-        let a = split(left);
-        let b = split(right);
-        if a.name.as_bytes() != b.name.as_bytes() {
-            return same;
-        }
-        same += 1;
-        match (a.rest, b.rest) {
-            (Some(after_a), Some(after_b)) => {
-                left = after_a;
-                right = after_b;
-            }
-            _ => return same,
-        }
-    }
-}
-
-/// How many steps of the path are there once these edits are made.
-fn reached(edits: &[Step], path: &str) -> usize
-    ensures { result ≡ reached_by edits.now (names path.now) }
-{
-    let mut most = 0;
-    let mut rest = edits;
-    while let [first, others @ ..] = rest {
-        if first.operator() != Operator::Unset {
-            most = most.max(common(first.path().as_str(), path));
-        }
-        rest = others;
-    }
-    most
-}
-
 /// The bytes of a path's steps but the first `skipped`, each with its name, a
 /// type byte and a 00, and the five of a document behind it. None where that is
 /// past usize.
@@ -127,14 +90,27 @@ fn steps_len(path: &str, skipped: usize) -> Option<usize>
     Some(len)
 }
 
-/// How a path meets a document once these edits are made.
-fn meeting_after<'a>(edits: &[Step], path: &'a str, doc: &'a Doc) -> Meeting<'a>
-    ensures { seen result ≡ closer (reached_by edits.now (names path.now)) (meet (names path.now) doc.now) }
+/// How a path meets a document once these paths are made.
+fn meeting_after<'a>(makers: &Apart<'_>, path: &'a Text, doc: &'a Doc) -> Meeting<'a>
+    ensures { seen result ≡ closer (most_common makers.now (names path.now)) (meet (names path.now) doc.now) }
 {
-    match meeting_with(doc, path) {
-        Meeting::Absent(kept) => Meeting::Absent(reached(edits, path).max(kept)),
+    match meeting_with(doc, path.as_str()) {
+        Meeting::Absent(kept) => Meeting::Absent(makers.common(path).max(kept)),
         other => other,
     }
+}
+
+/// Puts the path of an edit among those that are made, unless it is `$unset`.
+fn add_maker<'a>(makers: &mut Apart<'a>, step: &'a Step) -> Result<(), AllocError>
+    requires { overlaps_any makers.old step.now.path ≡ false }
+    ensures reach { OnOk result ((ms : List (List ℕ)) → most_common makers.new ms ≡ max (reach step.now ms) (most_common makers.old ms)) }
+    ensures free { OnOk result ((q : List ℕ) → overlap step.now.path q ≡ false → overlaps_any makers.old q ≡ false → overlaps_any makers.new q ≡ false) }
+{
+    if step.operator() == Operator::Unset {
+        return Ok(());
+    }
+    let _apart = makers.put(step.path())?;
+    Ok(())
 }
 
 /// A node of the value, where there is one.
@@ -251,15 +227,15 @@ fn len_of_all(alloc: Global, steps: &[Step], doc: &Doc) -> Result<usize, ChangeF
     ensures { GivesLen doc_len result (all_edited steps.now doc.now) }
 {
     let mut len = doc.bytes().len();
-    let mut done = 0;
+    let mut makers = Apart::new(alloc);
     let mut rest = steps;
     while let [first, others @ ..] = rest {
-        let meeting = meeting_after(&steps[..done], first.path().as_str(), doc);
+        let meeting = meeting_after(&makers, first.path(), doc);
         match len_after(alloc, first, meeting, len) {
             Ok(next) => len = next,
             Err(fault) => return Err(fault),
         }
-        done += 1;
+        add_maker(&mut makers, first)?;
         rest = others;
     }
     Ok(len)

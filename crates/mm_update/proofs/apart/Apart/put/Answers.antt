@@ -2,6 +2,7 @@ use Rattle.std.proofs.Common.{◌≡◌, ℕ, false, List, map, length, sym, ap,
 use Rattle.std.specs.Prelude.{not}
 use Rattle.mm_update.specs.Paths.{overlaps_any, AreInOrder, IsPlace, IsFree}
 use Rattle.mm_update.proofs.Ordered.{mapped_length, mapped_insert, place_within, in_order_put, none_overlaps, any_put}
+use Rattle.mm_update.proofs.Commons.{most_put}
 use Rattle.mm_update.proofs.apart.Apart.put.Goals as goal
 
 pub insert-requires : goal.insert-requires
@@ -41,3 +42,11 @@ returns-clause-one_more c = λ is q.
     let k = c.place_of-place.result in
     let view : c.args.self.now ≡ ps = sym c.self.view_is in
     rw (c.in_ok-insert.ensures.items, mapped_insert (λ t. t.now) k c.args.path paths, view) (any_put c.args.path.now k ps q)
+
+pub returns-clause-common : goal.returns-clause-common
+returns-clause-common c = λ is ms.
+    let paths = c.self.inside.paths.items in
+    let ps : List (List ℕ) = map (λ t. t.now) paths in
+    let k = c.place_of-place.result in
+    let view : c.args.self.now ≡ ps = sym c.self.view_is in
+    rw (c.in_ok-insert.ensures.items, mapped_insert (λ t. t.now) k c.args.path paths, view) (most_put c.args.path.now k ps ms)

@@ -3,7 +3,7 @@ use denote.Text.{Utf8}
 use denote.Shadow.{shadow}
 use Rattle.mm_bson.specs.Path.{names}
 use Rattle.mm_update.specs.Meeting.{common}
-use Rattle.mm_update.proofs.long.common.Given as goal
+use Rattle.mm_update.proofs.apart.common.Given as goal
 
 abbrev pub invariant-loop-a : goal.invariant-loop-a
 invariant-loop-a l = record {

@@ -4,7 +4,7 @@ use Rattle.std.specs.Str.{bytes_eq}
 use Rattle.mm_bson.specs.Path.{names}
 use Rattle.mm_update.specs.Meeting.{common}
 use Rattle.mm_update.proofs.Steps.{some_step}
-use Rattle.mm_update.proofs.long.common.Goals as goal
+use Rattle.mm_update.proofs.apart.common.Goals as goal
 
 not_false : (b : Bool) → not b ≡ false → b ≡ true
 not_false true e = refl
