@@ -1,5 +1,5 @@
 -- A path with more steps than a document may have levels makes a document that is too deep.
-use Rattle.std.proofs.Common.{◌≡◌, ◌≢◌, ℕ, ◌+◌, ◌<◌, ◌≤◌, Bool, true, false, cond, List, [], ◌∷◌, length, Option, Some, None, Ok, Err, inl, inr, ◌⊎◌, refl, sym, ap, ◌∙◌, arith}
+use Rattle.std.proofs.Common.{◌≡◌, ℕ, ◌+◌, ◌<◌, ◌≤◌, Bool, true, false, cond, List, [], ◌∷◌, length, Option, Some, None, Ok, Err, inl, inr, ◌⊎◌, refl, ap, ◌∙◌, arith}
 use Rattle.std.specs.Prelude.{option_and_then, nat_le, nat_lt}
 use Rattle.std.proofs.lemmas.Bool.Decides.{nat_tests}
 use Rattle.std.specs.Str.{bytes_eq}
@@ -8,18 +8,15 @@ use Rattle.mm_bson.specs.Path.{names, find, onward as go, value_at, value_at_pat
 use Rattle.mm_bson.specs.Spelling.{spelling}
 use Rattle.mm_update.specs.declared.fault.ChangeFault.{ChangeFault}
 use Rattle.mm_update.specs.declared.fault.ChangeFault.TheVariants.{TooLong, TooDeep}
-use Rattle.mm_update.specs.declared.step.Operator.{Operator}
-use Rattle.mm_update.specs.declared.step.Operator.TheVariants.{Set, Unset, Inc, Push}
 use Rattle.mm_update.specs.Edit.{Edit, edits}
-use Rattle.mm_update.specs.Edited.{Outcome, and_then, with_value, opened, onward, put, value_by, edit_by, edited, all_edited, Fails}
+use Rattle.mm_update.specs.Edited.{edited, all_edited, Fails}
 use Rattle.mm_update.specs.Changed.{finished, changed}
 use Rattle.mm_update.specs.Laws.{AreApart}
 use Rattle.mm_update.specs.Meeting.{doc_len, IsLong, HasLong}
-use Rattle.mm_update.proofs.Steps.{some_step}
-use Rattle.mm_update.proofs.Fields.{find-with_value}
-use Rattle.mm_update.proofs.Kept.{mapped_ok, then_ok}
+use Rattle.mm_update.proofs.Kept.{then_ok}
 use Rattle.mm_update.proofs.Onward.{Fails-then}
 use Rattle.mm_update.proofs.Whole.{all_keep}
+use Rattle.mm_update.proofs.Makes.{edit_makes}
 
 find_depth : (n : List ℕ) (es : Elements) (t : Tree) → find n es ≡ Some t → tree_depth t ≤ depth es
 find_depth n no_elements t found = absurd cc
@@ -47,29 +44,6 @@ deep_at (n ∷ m ∷ ms) es v e =
     let inside = some_inside n m ms es v e in
     omega (arith, deep_at (m ∷ ms) inside.0 v inside.2, find_depth n es (document inside.0) inside.1)
 
--- an edit other than $unset leaves a value at its path
-put_found : (path : List ℕ) (value : Option Tree → Outcome Tree) (n : List ℕ) (ns : List (List ℕ)) (es new : Elements) → put path value (n ∷ ns) es ≡ Ok new → (v : Tree) × (value_at (n ∷ ns) new ≡ Some v)
-put_found path value n [] es new e =
-    let made = mapped_ok (λ t. with_value n t es) (value (find n es)) new e in
-    (made.0, ap (value_at (n ∷ [])) (sym made.2) ∙ ap (option_and_then (go [] (value_at []))) (find-with_value n made.0 es))
-put_found path value n (m ∷ ns) es new e =
-    let made = mapped_ok (λ t. with_value n t es) (onward path (m ∷ ns) value (put path value (m ∷ ns)) (find n es)) new e in
-    let doc = mapped_ok document (and_then (put path value (m ∷ ns)) (opened path (find n es))) made.0 made.1 in
-    let inner = then_ok (put path value (m ∷ ns)) (opened path (find n es)) doc.0 doc.1 in
-    let later = put_found path value m ns inner.0 doc.0 inner.2 in
-    (later.0, ap (value_at (n ∷ m ∷ ns)) (sym made.2) ∙ ap (λ (t : Tree). value_at (n ∷ m ∷ ns) (with_value n t es)) (sym doc.2) ∙ ap (option_and_then (go (m ∷ ns) (value_at (m ∷ ns)))) (find-with_value n (document doc.0) es) ∙ later.1)
-
-path_found : (path : List ℕ) (value : Option Tree → Outcome Tree) (es new : Elements) → put path value (names path) es ≡ Ok new → (v : Tree) × (value_at_path path new ≡ Some v)
-path_found path value es new e =
-    let some = some_step path in
-    rw some.2 (put_found path value some.0 some.1 es new (rw some.2 at e))
-
-made_found : (operator : Operator) (path : List ℕ) (t : Tree) (es new : Elements) → operator ≢ Unset → edit_by operator path t es ≡ Ok new → (v : Tree) × (value_at_path path new ≡ Some v)
-made_found Unset path t es new h e = absurd (h refl)
-made_found Set path t es new h e = path_found path (value_by Set path t) es new e
-made_found Inc path t es new h e = path_found path (value_by Inc path t) es new e
-made_found Push path t es new h e = path_found path (value_by Push path t) es new e
-
 long_deep : (es : List Edit) (old new : Elements) → AreApart es → HasLong es → all_edited es old ≡ Ok new → 100 ≤ depth new
 long_deep [] old new apart long is = absurd long
 long_deep (e ∷ es) old new apart long is =
@@ -79,8 +53,8 @@ long_deep (e ∷ es) old new apart long is =
     by : IsLong e ⊎ HasLong es → (middle : Elements) → edited e old ≡ Ok middle → all_edited es middle ≡ Ok new → (HasLong es → 100 ≤ depth new) → 100 ≤ depth new
     by (inr after) middle here rest later = later after
     by (inl long) middle here rest later =
-        let found = made_found e.operator e.path e.operand old middle long.0 here in
-        let there : value_at_path e.path new ≡ Some found.0 = all_keep es middle new e.path rest apart.0 ∙ found.1 in
+        let found = edit_makes e.operator e.path e.operand old middle long.0 here in
+        let there : value_at_path e.path new ≡ Some found.0 = all_keep es middle new e.path rest apart.0 ∙ found.2 in
         omega (arith, deep_at (names e.path) new found.0 there, long.1)
 
 le_false : (a b : ℕ) → b < a → nat_le a b ≡ false

@@ -44,7 +44,7 @@ find-without n m (element k u es) e = by (bytes_eq k n) refl (find-without n m e
     by false is later = ap (cond (bytes_eq k m) (Some u)) later
 
 -- a document on the way holds what is read behind it
-inner_of : (path : List ℕ) (o : Option Tree) (es : Elements) (m : List ℕ) (ms : List (List ℕ)) → opened path o ≡ Ok es → option_and_then (go (m ∷ ms) (value_at (m ∷ ms))) o ≡ value_at (m ∷ ms) es
+pub inner_of : (path : List ℕ) (o : Option Tree) (es : Elements) (m : List ℕ) (ms : List (List ℕ)) → opened path o ≡ Ok es → option_and_then (go (m ∷ ms) (value_at (m ∷ ms))) o ≡ value_at (m ∷ ms) es
 inner_of path None es m ms e =
     let none : no_elements ≡ es = cc in
     rw (← none) refl

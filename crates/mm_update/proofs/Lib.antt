@@ -6,6 +6,7 @@ pub mod Onward
 pub mod Walk
 pub mod Kept
 pub mod Whole
+pub mod Makes
 pub mod Lengths
 pub mod Ordered
 pub mod Meets

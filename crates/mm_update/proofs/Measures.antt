@@ -1,5 +1,5 @@
 -- The length of a document with several edits made, one after the other.
-use Rattle.std.proofs.Common.{◌≡◌, ℕ, ◌<◌, Bool, true, false, List, [], ◌∷◌, ◌++◌, length, Ok, refl, sym, ap, ◌∙◌, arith}
+use Rattle.std.proofs.Common.{◌≡◌, ℕ, ◌<◌, false, List, [], ◌∷◌, ◌++◌, length, Ok, refl, sym, ap, ◌∙◌, arith}
 use Rattle.std.specs.Prelude.{◌||◌, max}
 use Rattle.mm_bson.specs.Tree.{Elements}
 use Rattle.mm_bson.specs.Path.{names}
@@ -10,20 +10,9 @@ use Rattle.mm_update.specs.Edited.{Outcome, and_then, edited, all_edited, Fails}
 use Rattle.mm_update.specs.Laws.{AreApart}
 use Rattle.mm_update.specs.Meeting.{meet, reach, reached, closer, most_common, doc_len, ArePast, Measured, MeasuredBy}
 use Rattle.mm_update.proofs.Walk.{paths-append, any_last}
+use Rattle.mm_update.proofs.Whole.{or_left, or_right, or_swap}
 use Rattle.mm_update.proofs.Onward.{Fails-then, Fails-along}
 use Rattle.mm_update.proofs.Meets.{closer-none, closer-twice, edit_meets}
-
-or_left : (a b : Bool) → (a || b) ≡ false → a ≡ false
-or_left true b e = e
-or_left false b e = refl
-
-or_right : (a b : Bool) → (a || b) ≡ false → b ≡ false
-or_right true b e = absurd cc
-or_right false b e = e
-
-or_swap : (a b : Bool) → (a || b) ≡ false → (b || a) ≡ false
-or_swap true b e = absurd cc
-or_swap false b e = rw e refl
 
 past_none : (es : List Edit) → ArePast [] es
 past_none [] = tt

@@ -1,6 +1,6 @@
 -- How an edit changes what other paths meet.
 use Rattle.std.proofs.Common.{◌≡◌, ℕ, suc, ◌+◌, Bool, true, false, cond, List, [], ◌∷◌, Option, Some, None, Ok, refl, sym, ap, ◌∙◌, arith}
-use Rattle.std.specs.Prelude.{◌&&◌, ◌||◌, max}
+use Rattle.std.specs.Prelude.{◌&&◌, max}
 use Rattle.std.specs.Str.{bytes_eq}
 use Rattle.std.specs.Borrow.{Bor}
 use Rattle.mm_bson.specs.declared.doc.Doc.{Doc}
@@ -17,6 +17,7 @@ use Rattle.mm_update.specs.Edited.{Outcome, and_then, with_value, opened, onward
 use Rattle.mm_update.specs.Meeting.{Meeting, absent, blocked, present, deeper, farther, meet_inside, meet_onward, meet, common, reach_by, reach, closer}
 use Rattle.mm_update.proofs.Steps.{some_step}
 use Rattle.mm_update.proofs.Fields.{bytes_same}
+use Rattle.mm_update.proofs.Whole.{or_left, or_right}
 use Rattle.mm_update.proofs.Kept.{mapped_ok, then_ok, same_name, find-other, find-same, find-without, and_true}
 
 pub closer-none : (m : Meeting) → closer 0 m ≡ m
@@ -116,14 +117,6 @@ removed_meets (n ∷ ns) [] es a b = refl
 removed_meets (n ∷ ns) (m ∷ ms) es a b = taken_meets n m ns ms es a b (λ inner c d. removed_meets ns ms inner c d)
 
 -- ---- edits
-
-or_left : (a b : Bool) → (a || b) ≡ false → a ≡ false
-or_left true b e = e
-or_left false b e = refl
-
-or_right : (a b : Bool) → (a || b) ≡ false → b ≡ false
-or_right true b e = absurd cc
-or_right false b e = e
 
 operator_meets : (operator : Operator) (path : List ℕ) (t : Tree) (q : List ℕ) (es new : Elements) → edit_by operator path t es ≡ Ok new → overlap path q ≡ false → meet (names q) new ≡ closer (reach_by operator (names path) (names q)) (meet (names q) es)
 operator_meets Unset path t q es new e apart =

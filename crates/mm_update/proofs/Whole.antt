@@ -20,21 +20,21 @@ use Rattle.mm_update.proofs.Fields.{bytes_same}
 use Rattle.mm_update.proofs.Kept.{same_name, then_ok, put_keeps, removed_keeps, put_reads}
 use Rattle.mm_update.proofs.Walk.{entries_are, field_first, first_wrong-entries}
 
-or_left : (a b : Bool) → (a || b) ≡ false → a ≡ false
+pub or_left : (a b : Bool) → (a || b) ≡ false → a ≡ false
 or_left true b e = e
 or_left false b e = refl
 
-or_right : (a b : Bool) → (a || b) ≡ false → b ≡ false
+pub or_right : (a b : Bool) → (a || b) ≡ false → b ≡ false
 or_right true b e = absurd cc
 or_right false b e = e
 
-or_swap : (a b : Bool) → (a || b) ≡ false → (b || a) ≡ false
+pub or_swap : (a b : Bool) → (a || b) ≡ false → (b || a) ≡ false
 or_swap true b e = absurd cc
 or_swap false b e = rw e refl
 
 -- ---- other paths
 
-by_operator : (operator : Operator) (path : List ℕ) (t : Tree) (q : List ℕ) (es new : Elements) → edit_by operator path t es ≡ Ok new → overlap path q ≡ false → value_at_path q new ≡ value_at_path q es
+pub by_operator : (operator : Operator) (path : List ℕ) (t : Tree) (q : List ℕ) (es new : Elements) → edit_by operator path t es ≡ Ok new → overlap path q ≡ false → value_at_path q new ≡ value_at_path q es
 by_operator Unset path t q es new e apart =
     let same : removed (names path) es ≡ new = cc in
     ap (value_at (names q)) (sym same) ∙ removed_keeps (names path) (names q) es (or_left _ _ apart) (or_right (leads (names path) (names q)) _ apart)
@@ -50,7 +50,7 @@ all_keep (x ∷ es) old new q e apart =
     let step = then_ok (all_edited es) (edited x old) new e in
     all_keep es step.0 new q step.2 (or_right (overlap x.path q) _ apart) ∙ by_operator x.operator x.path x.operand q old step.0 step.1 (or_left _ _ apart)
 
-finished_same : (d new : Elements) → finished d ≡ Ok new → d ≡ new
+pub finished_same : (d new : Elements) → finished d ≡ Ok new → d ≡ new
 finished_same d new e = by (nat_le (length (spelling d)) 0x100_0000) (nat_lt (depth d) 100) e
   where
     by : (short shallow : Bool) → cond short (cond shallow (Ok d) (Err TooDeep)) (Err (TooLong (length (spelling d)))) ≡ Ok new → d ≡ new

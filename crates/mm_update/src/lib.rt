@@ -8,11 +8,14 @@
 //!   edit that it can't have, and else where the finished document has more
 //!   than 16,777,216 bytes or 100 levels. The document given is left alone.
 //! - A change leaves the `_id` as it is, and each path that overlaps none of
-//!   its own.
+//!   its own. At those it makes what the laws say.
 //!
-//! Not promised: that memory suffices; a path of very many steps takes stack.
-//! In specs/, Form says what is wrong with a change, Edited what an edit makes
-//! of a document, Changed what a change does and Laws what it keeps.
+//! Documents are walked level by level, at most 100. Where an edit would make
+//! more, nothing is made: the finished document is measured by loops.
+//!
+//! Not promised: that memory suffices. In specs/, Form says what is wrong with
+//! a change, Edited what an edit makes of a document, Changed what a change
+//! does, Laws what it keeps and makes, and Meeting how a path meets a document.
 #![tactic(auto)]
 
 mod apart;
@@ -32,4 +35,7 @@ mod write;
 
 pub use change::Change;
 pub use fault::ChangeFault;
-pub use laws::{changes_keep_other_paths, changes_keep_the_id, set_puts_its_value};
+pub use laws::{
+    changes_keep_other_paths, changes_keep_the_id, edits_make_their_values, inc_adds,
+    push_puts_behind, replacements_decide_the_rest, set_puts_its_value, unset_takes_out,
+};
