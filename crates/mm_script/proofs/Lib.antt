@@ -1,0 +1,11 @@
+pub mod WordSteps
+pub mod NameSteps
+pub mod DocSteps
+pub mod SpecSteps
+pub mod HexSteps
+pub mod FieldSteps
+pub mod ReadSteps
+pub mod LineSteps
+pub mod LoopSteps
+pub mod WordLaws
+pub mod DocLaws

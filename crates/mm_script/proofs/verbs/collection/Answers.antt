@@ -1,0 +1,28 @@
+use Rattle.std.proofs.Common.{◌≡◌, true, false, Ok, Err, sym, ap, ◌∙◌, subst, ltb}
+use Rattle.std.proofs.lemmas.Grind.{common_steps}
+use Rattle.mm_base.specs.Names.{IsName}
+use Rattle.mm_model.specs.WellFormed.{is_collection_name}
+use Rattle.mm_script.specs.declared.fault.LineWhat.TheVariants as what
+use Rattle.mm_script.proofs.NameSteps.{part_taken, part_refused, collection_is_name}
+use Rattle.mm_script.proofs.verbs.collection.Goals as goal
+
+pub returns-then-not-is_collection : goal.returns-then-not-is_collection
+returns-then-not-is_collection c =
+    let w = c.in_ok-word.word.now in
+    let fails : is_collection_name w ≡ false = ap is_collection_name (sym c.as_bytes.ensures.value) ∙ sym c.is_collection.ensures ∙ (cc) in
+    part_refused what.Collection is_collection_name c.args.text.now (w, c.in_ok-word.rest.now) c.in_ok-word.ensures fails
+
+pub returns-in-Some : goal.returns-in-Some
+returns-in-Some c =
+    let w = c.in_ok-word.word.now in
+    let passes : is_collection_name w ≡ true = ap is_collection_name (sym c.as_bytes.ensures.value) ∙ sym c.is_collection.ensures ∙ (cc) in
+    let same : w ≡ c.in-Some.name = sym c.as_bytes-2.ensures.value ∙ sym c.in-Some.ensures.bytes in
+    part_taken what.Collection is_collection_name c.args.text.now (w, c.in_ok-word.rest.now) c.in_ok-word.ensures passes ∙ ap (λ v. Ok (v, c.in_ok-word.rest.now)) same
+
+pub returns-in-None : goal.returns-in-None
+returns-in-None c =
+    let w = c.in_ok-word.word.now in
+    let passes : is_collection_name w ≡ true = ap is_collection_name (sym c.as_bytes.ensures.value) ∙ sym c.is_collection.ensures ∙ (cc) in
+    let name : IsName c.as_bytes-2.result.now = subst IsName (sym c.as_bytes-2.ensures.value) (collection_is_name w passes) in
+    let wrong : false ≡ true = c.in-None.ensures.some.1 name in
+    absurd (cc)

@@ -1,0 +1,12 @@
+pub mod Replies
+pub mod Groups
+pub mod Texts
+pub mod Words
+pub mod Names
+pub mod Documents
+pub mod Form
+pub mod Grammar
+pub mod Lines
+pub mod Script
+pub mod Reading
+pub mod Generator
