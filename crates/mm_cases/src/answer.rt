@@ -7,6 +7,7 @@ use crate::documents::{
 use crate::filters::{bounds, filter, matches};
 use crate::keys::{key, key_order, specification};
 use crate::places::{coverage, file, union};
+use crate::sizes::{long_path, many_paths};
 use anyhow::{Result, bail};
 use std::alloc::{AllocError, Global};
 
@@ -32,6 +33,8 @@ fn called(alloc: Global, name: &str, rest: &str) -> Result<String> {
         "filter" | "matches" | "bounds" => on_filters(alloc, name, rest),
         "change" => change(alloc, rest),
         "apply" => applied(alloc, rest),
+        "long" => long_path(alloc, rest),
+        "wide" => many_paths(alloc, rest),
         "file" => file(alloc, rest),
         "union" => union(alloc, rest),
         "covers" => coverage(alloc, rest),

@@ -14,6 +14,7 @@ mod filters;
 mod keys;
 mod operands;
 mod places;
+mod sizes;
 
 use crate::answer::answer;
 use std::io::{self, BufRead, BufReader};
