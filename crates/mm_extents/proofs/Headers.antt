@@ -19,7 +19,7 @@ use Rattle.mm_extents.proofs.FileLaws.{file_len_most}
 pub loc_ofs : (k u : ℕ) → k < 8 → u ≤ 67108864 → (loc (k, u)).ofs ≡ pos u
 loc_ofs k u low short = (not_null_is (pos k) (pos u) (λ e. cc) (record { sfits = omega (arith, low) }) (record { sfits = omega (arith, short) })).1
 
-header_ranges : (k u : ℕ) → AllInRange (file_header_table (header_with k u))
+pub header_ranges : (k u : ℕ) → AllInRange (file_header_table (header_with k u))
 header_ranges k u = let most = file_len_most k in search (rules, most)
 
 pub header_again : (k u : ℕ) → file_header_of (file_header_bytes (header_with k u)) ≡ header_with k u

@@ -12,3 +12,5 @@ pub mod NewWrites
 pub mod Names
 pub mod Headers
 pub mod ReuseSteps
+pub mod Grown
+pub mod HeaderWrites

@@ -14,10 +14,10 @@ use Rattle.mm_extents.specs.Tiling.{Outline, an_extent, a_block, outline, ground
 some_same : {A : Type 0} (x y : A) → Some x ≡ Some y → x ≡ y
 some_same x y e = cc
 
-extent_parts : (m m' : ℕ) (l l' : DiskLoc) (x y : List ℕ) (u v : ℤ) → an_extent m l x u ≡ an_extent m' l' y v → (l ≡ l') × ((x ≡ y) × (u ≡ v))
+pub extent_parts : (m m' : ℕ) (l l' : DiskLoc) (x y : List ℕ) (u v : ℤ) → an_extent m l x u ≡ an_extent m' l' y v → (l ≡ l') × ((x ≡ y) × (u ≡ v))
 extent_parts m m' l l' x y u v e = (let f : l ≡ l' = cc in f, (let g : x ≡ y = cc in g, let h : u ≡ v = cc in h))
 
-magic_part : (m m' : ℕ) (l l' : DiskLoc) (x y : List ℕ) (u v : ℤ) → an_extent m l x u ≡ an_extent m' l' y v → m ≡ m'
+pub magic_part : (m m' : ℕ) (l l' : DiskLoc) (x y : List ℕ) (u v : ℤ) → an_extent m l x u ≡ an_extent m' l' y v → m ≡ m'
 magic_part m m' l l' x y u v e = cc
 
 -- the outline of what stands in an extent

@@ -16,6 +16,7 @@ mod blocks;
 mod cells;
 mod chains;
 mod free_extents;
+mod made_files;
 mod new_extents;
 mod places;
 
