@@ -1,7 +1,5 @@
 -- Deleted blocks that get another link or become records, and records that are cut in two.
-use Rattle.std.proofs.Common.{◌≡◌, ℕ, ℤ, pos, ◌+◌, ◌-◌, ◌<◌, ◌≤◌, inl, inr, true, false, List, length, take, drop, Some, refl, sym, ◌∙◌, ap, subst, arith, length-drop}
-use Rattle.std.specs.Prelude.{◌==◌}
-use Rattle.std.proofs.lemmas.Bool.{cases_Bool, eqb-true}
+use Rattle.std.proofs.Common.{◌≡◌, ℕ, ℤ, pos, ◌+◌, ◌-◌, ◌≤◌, List, length, take, drop, Some, refl, sym, ◌∙◌, ap, arith, length-drop}
 use Rattle.std.proofs.lemmas.List.{drop-take, drop-drop, take-take, length-take-le}
 use Rattle.mm_base.specs.Bytes.{part, overwritten}
 use Rattle.mm_base.proofs.Parts.{length-overwritten, part-overwritten, part_before, part_behind}
@@ -11,8 +9,8 @@ use Rattle.mm_frames.specs.RecHeader.{rec_header_of}
 use Rattle.mm_frames.specs.DeletedHeader.{deleted_header_of}
 use Rattle.mm_frames.specs.declared.rec_header.RecHeader.{RecHeader}
 use Rattle.mm_frames.specs.declared.deleted_header.DeletedHeader.{DeletedHeader}
-use Rattle.mm_links.specs.Links.{Place, same}
-use Rattle.mm_extents.specs.Heap.{Cell, live, deleted, size, Heap, Shows, IsHeap, change}
+use Rattle.mm_links.specs.Links.{Place}
+use Rattle.mm_extents.specs.Heap.{live, deleted, size, Heap, IsHeap, change}
 use Rattle.mm_extents.specs.Changes.{deleted_next_set, taken, front_of, rest_of, behind_of, put_two}
 use Rattle.mm_extents.proofs.Writes.{laid_here, laid_elsewhere}
 use Rattle.mm_extents.proofs.Fields.{head_there, rest_there, front_changed}

@@ -1,14 +1,11 @@
 -- An extent is cut from the unused rest of a file, and the files are tiled again.
-use Rattle.std.proofs.Common.{◌≡◌, ◌≢◌, ℕ, ℤ, pos, ◌+◌, ◌-◌, ◌%◌, ◌<◌, ◌≤◌, ◌⊎◌, inl, inr, true, false, List, Option, Some, None, refl, sym, ◌∙◌, ap, subst, arith}
+use Rattle.std.proofs.Common.{◌≡◌, ◌≢◌, ℕ, ℤ, pos, ◌+◌, ◌-◌, ◌%◌, ◌<◌, ◌≤◌, inl, inr, true, false, List, Option, Some, None, refl, sym, ◌∙◌, ap, subst, arith}
 use Rattle.std.specs.Prelude.{◌==◌}
 use Rattle.std.specs.Option.{option_map}
-use Rattle.std.proofs.lemmas.Bool.{cases_Bool, eqb-true, eq-eqb}
+use Rattle.std.proofs.lemmas.Bool.{cases_Bool, eqb-true}
 use Rattle.mm_base.specs.Bytes.{padded}
 use Rattle.mm_base.specs.declared.place.DiskLoc.{DiskLoc}
 use Rattle.mm_frames.specs.Texts.{text_in}
-use Rattle.mm_frames.specs.declared.extent_header.ExtentHeader.{ExtentHeader}
-use Rattle.mm_frames.specs.declared.rec_header.RecHeader.{RecHeader}
-use Rattle.mm_frames.specs.declared.deleted_header.DeletedHeader.{DeletedHeader}
 use Rattle.mm_links.specs.Links.{Place, same}
 use Rattle.mm_links.proofs.LinkLaws.{same_is, same_not}
 use Rattle.mm_extents.specs.Heap.{Cell, extent, live, deleted, size, Heap}

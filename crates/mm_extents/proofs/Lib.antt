@@ -14,3 +14,4 @@ pub mod Headers
 pub mod ReuseSteps
 pub mod Grown
 pub mod HeaderWrites
+pub mod CutSteps

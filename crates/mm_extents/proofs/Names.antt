@@ -1,5 +1,5 @@
 -- What stands in a name's padded field.
-use Rattle.std.proofs.Common.{◌≡◌, ℕ, List, length, refl, sym, ap, subst, arith}
+use Rattle.std.proofs.Common.{◌≡◌, ℕ, List, length, sym, ap, arith}
 use Rattle.std.specs.Prelude.{not, ◌==◌}
 use Rattle.std.specs.List.{prefix_len}
 use Rattle.mm_base.specs.Bytes.{padded}

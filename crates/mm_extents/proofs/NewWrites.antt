@@ -1,5 +1,5 @@
 -- The header of a new extent and of its block are written.
-use Rattle.std.proofs.Common.{◌≡◌, ℕ, ◌+◌, ◌-◌, ◌<◌, ◌≤◌, List, length, refl, sym, ◌∙◌, ap, arith}
+use Rattle.std.proofs.Common.{◌≡◌, ℕ, ◌+◌, ◌-◌, ◌<◌, ◌≤◌, List, length, refl, ◌∙◌, ap, arith}
 use Rattle.mm_base.specs.Bytes.{part, overwritten}
 use Rattle.mm_base.proofs.Parts.{length-part, length-overwritten, part-overwritten, part_before, part_behind}
 use Rattle.mm_ranges.specs.Overlay.{Image, bytes_at, laid}

@@ -1,25 +1,24 @@
 -- A free extent is taken out of its chain and becomes one of a namespace.
-use Rattle.std.proofs.Common.{◌≡◌, ◌≢◌, ℕ, ℤ, pos, negsuc, ◌+◌, ◌-◌, ◌<◌, ◌≤◌, ◌⊎◌, inl, inr, Bool, true, false, List, [], length, Option, Some, None, refl, sym, ◌∙◌, ap, subst, arith}
+use Rattle.std.proofs.Common.{◌≡◌, ◌≢◌, ℕ, ℤ, pos, negsuc, ◌+◌, ◌-◌, ◌<◌, ◌≤◌, inl, inr, true, false, List, [], length, Option, Some, None, refl, sym, ◌∙◌, ap, subst, arith}
 use Rattle.std.specs.Prelude.{if◌then◌else◌, unwrap_or, nat_lt}
 use Rattle.std.specs.Option.{option_map}
 use Rattle.std.specs.FinMap.{get}
 use Rattle.std.proofs.lemmas.Bool.{cases_Bool, false≢true}
-use Rattle.mm_base.specs.Bytes.{part, padded}
+use Rattle.mm_base.specs.Bytes.{padded}
 use Rattle.mm_base.specs.Places.{null}
-use Rattle.mm_base.proofs.Parts.{length-part}
 use Rattle.mm_base.specs.declared.place.DiskLoc.{DiskLoc}
 use Rattle.mm_ranges.specs.Overlay.{Image, bytes_at}
 use Rattle.mm_frames.specs.Texts.{text_in}
 use Rattle.mm_frames.specs.declared.extent_header.ExtentHeader.{ExtentHeader}
 use Rattle.mm_frames.specs.declared.free_ends.FreeEnds.{FreeEnds}
 use Rattle.mm_links.specs.Links.{Place, StandsBefore, same, has, once, first_of, last_of, next_in, without, is, IsLinked}
-use Rattle.mm_links.proofs.LinkLaws.{same_is, same_own, same_not, not_same, if_true, if_false, has_next, has_before, before_of, before_once, not_behind_first, some_is, isnt_some, last_before, last_alone, last_stays, first_stays, first_moves, unlinked, has_of_without}
-use Rattle.mm_extents.specs.Heap.{Cell, extent, live, deleted, size, Heap, IsHeap, change}
-use Rattle.mm_extents.specs.Changes.{loc_or, IsLow, LowOr, KeepsHeaders, len_of, xnext_set, xprev_set, behind_of}
+use Rattle.mm_links.proofs.LinkLaws.{same_is, same_not, not_same, if_true, if_false, has_next, has_before, before_of, before_once, not_behind_first, some_is, isnt_some, last_before, last_alone, last_stays, first_stays, first_moves, unlinked, has_of_without}
+use Rattle.mm_extents.specs.Heap.{Cell, extent, live, deleted, Heap, IsHeap, change}
+use Rattle.mm_extents.specs.Changes.{loc_or, LowOr, KeepsHeaders, xnext_set, xprev_set, behind_of}
 use Rattle.mm_extents.specs.Files.{header_unused, unused_in}
 use Rattle.mm_extents.specs.Tiling.{Outline, an_extent, a_block, outline, ground, IsExtent, BlockAt, IsTiled}
 use Rattle.mm_extents.specs.Chains.{ext_next, ext_prev}
-use Rattle.mm_extents.specs.FreeExtents.{HasFree, IsClear, header_made, whole_block, with_extent, next_passed, prev_passed, IsExtentAt, ExtentOr, PassFits, without_links, IsReused}
+use Rattle.mm_extents.specs.FreeExtents.{HasFree, IsClear, header_made, whole_block, with_extent, next_passed, prev_passed, ExtentOr, PassFits, without_links, IsReused}
 use Rattle.mm_extents.proofs.Spots.{low_file}
 use Rattle.mm_extents.proofs.FileLaws.{low_place, short_file, files_kept}
 use Rattle.mm_extents.proofs.Writes.{changed_here, changed_there}

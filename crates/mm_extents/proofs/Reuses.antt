@@ -1,12 +1,12 @@
 -- A free extent becomes one of a namespace, and the files are tiled as before.
-use Rattle.std.proofs.Common.{◌≡◌, ◌≢◌, ℕ, ℤ, pos, ◌+◌, ◌-◌, ◌%◌, ◌<◌, ◌≤◌, ◌⊎◌, inl, inr, true, false, List, Option, Some, None, refl, sym, ◌∙◌, ap, subst, arith}
+use Rattle.std.proofs.Common.{◌≡◌, ◌≢◌, ℕ, ℤ, pos, ◌+◌, ◌-◌, ◌≤◌, ◌⊎◌, inl, inr, false, List, Option, Some, None, refl, sym, ◌∙◌, ap, subst, arith}
 use Rattle.std.specs.Option.{option_map}
 use Rattle.std.proofs.lemmas.Bool.{cases_Bool, cases_lt}
 use Rattle.mm_base.specs.Bytes.{padded}
 use Rattle.mm_base.specs.declared.place.DiskLoc.{DiskLoc}
 use Rattle.mm_frames.specs.Texts.{text_in}
 use Rattle.mm_links.specs.Links.{Place, same}
-use Rattle.mm_links.proofs.LinkLaws.{same_is, same_own, same_not, not_same}
+use Rattle.mm_links.proofs.LinkLaws.{same_is, same_not, not_same}
 use Rattle.mm_extents.specs.Heap.{Cell, extent, live, deleted, size, Heap}
 use Rattle.mm_extents.specs.Changes.{loc, behind_of}
 use Rattle.mm_extents.specs.Tiling.{Outline, an_extent, a_block, outline, ground, ExtentAt, BlockAt, IsExtent, IsHome, IsBlock, IsTiled}

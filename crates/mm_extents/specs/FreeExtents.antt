@@ -142,3 +142,13 @@ pub record IsReused (heap t : Heap) (chain : List Place) (e : Place) (name : Lis
   pub block : t (behind_of e 176) ≡ Some (deleted (whole_block e n) rest)
   pub others : (q : Place) → same e q ≡ false → same (behind_of e 176) q ≡ false → without_links (t q) ≡ without_links (heap q)
   pub same_off : (q : Place) → same e q ≡ false → same (behind_of e 176) q ≡ false → has chain q ≡ false → t q ≡ heap q
+
+-- At e, where nothing stood, there is an extent of a namespace of n bytes without records, whose whole room is one deleted block. All else stays.
+pub record IsCutOff (heap t : Heap) (e : Place) (name : List ℕ) (n : ℕ) : Type 0 where
+  pub none : heap e ≡ None
+  pub empty : heap (behind_of e 176) ≡ None
+  pub here : t e ≡ Some (extent (header_made e name n))
+  pub rest : List ℕ
+  pub rest_long : length rest ≡ n - 192
+  pub block : t (behind_of e 176) ≡ Some (deleted (whole_block e n) rest)
+  pub others : (q : Place) → same e q ≡ false → same (behind_of e 176) q ≡ false → t q ≡ heap q

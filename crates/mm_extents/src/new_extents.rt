@@ -1,6 +1,6 @@
 //! New extents.
 
-ghost use Rattle.std.specs.Prelude.{◌≡◌, ◌≢◌, ℕ, ◌+◌, ◌-◌, ◌<◌, ◌≤◌, true, List, Option, length, OnOk};
+ghost use Rattle.std.specs.Prelude.{◌≡◌, ◌≢◌, ℕ, ◌+◌, ◌-◌, ◌%◌, ◌<◌, ◌≤◌, Some, pos, true, List, Option, length, OnOk};
 ghost use Rattle.mm_base.specs.Bytes.{part, padded};
 ghost use Rattle.mm_frames.specs.Texts.{text_in};
 ghost use Rattle.mm_ranges.specs.Overlay.{bytes_at};
@@ -8,10 +8,13 @@ ghost use Rattle.mm_base.specs.Places.{null};
 ghost use Rattle.mm_frames.specs.declared.extent_header.ExtentHeader.{ExtentHeader};
 ghost use Rattle.mm_links.specs.Links.{Place, has, without};
 ghost use Rattle.mm_extents.specs.Heap.{Heap, IsHeap};
-ghost use Rattle.mm_extents.specs.Changes.{loc_or, LowOr, KeepsHeaders, DeclaresAtMost};
-ghost use Rattle.mm_extents.specs.FreeExtents.{IsClear, with_extent, header_made, next_passed, prev_passed, ExtentOr, PassFits, HasFree, IsReused};
+ghost use Rattle.mm_extents.specs.Changes.{loc_or, LowOr, len_of, KeepsHeaders, DeclaresAtMost};
+ghost use Rattle.mm_extents.specs.Files.{file_len, unused_in};
+ghost use Rattle.mm_frames.specs.declared.free_ends.FreeEnds.{FreeEnds};
+ghost use Rattle.mm_extents.specs.FreeExtents.{IsClear, with_extent, header_made, next_passed, prev_passed, ExtentOr, PassFits, HasFree, IsReused, IsCutOff};
 
 use crate::cells::{overwrite, read_extent, set_xnext, set_xprev};
+use crate::made_files::put_fields;
 use crate::places::{Spot, named_spot, natural, no_place, place};
 use mm_base::{DiskLoc, Name, NoMemory};
 use mm_frames::{
@@ -136,4 +139,20 @@ pub(crate) fn reuse_extent(
     pass_first(free, &header);
     pass_last(free, &header);
     put_extent(draft, at, name, natural(header.len))
+}
+
+// Cuts an extent without records from the unused rest of a data file.
+pub(crate) fn cut_extent(draft: &mut Draft, at: Spot, name: &Name, len: u32) -> Result<(), NoMemory>
+    requires rest { (db : List ℕ) × ((heap : Heap) × ((chain : List Place) × ((ends : FreeEnds) × (HasFree draft.old.image db heap chain ends × (unused_in draft.old.image at.file ≡ Some (pos at.ofs)))))) }
+    requires file { at.file < 8 }
+    requires there { len_of draft.old.image at.file ≡ Some (file_len at.file) }
+    requires fits { at.ofs + len ≤ file_len at.file }
+    requires pages { len % 4096 ≡ 0 }
+    requires long { 4096 ≤ len }
+    ensures ok { OnOk result ((db : List ℕ) (heap : Heap) (chain : List Place) (ends : FreeEnds) → HasFree draft.old.image db heap chain ends → unused_in draft.old.image at.file ≡ Some (pos at.ofs) → name.now ≢ db
+        → (t : Heap) × (HasFree draft.new.image db t chain ends × IsCutOff heap t (at.file, at.ofs) name.now len)) }
+    ensures weight { DeclaresAtMost 252 draft.old draft.new }
+{
+    put_fields(draft, at.file, at.ofs + len)?;
+    put_extent(draft, at, name, len)
 }

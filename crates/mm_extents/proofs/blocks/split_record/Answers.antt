@@ -1,16 +1,15 @@
-use Rattle.std.proofs.Common.{◌≡◌, ℕ, ℤ, pos, ◌+◌, ◌≤◌, length, to_z, refl, rules, ap, sym, ◌∙◌, subst, arith}
+use Rattle.std.proofs.Common.{◌≡◌, pos, ◌+◌, length, to_z, rules, ap, sym, ◌∙◌, subst, arith}
 use Rattle.std.specs.Prelude.{FitsSigned}
 use Rattle.std.specs.Int.{w32}
 use Rattle.std.proofs.lemmas.Int.{to_z-of_z, to_z_pos}
 use Rattle.std.proofs.lemmas.Result.{on_ok_weaker}
 use Rattle.mm_links.specs.Links.{Place}
-use Rattle.mm_base.specs.Bytes.{part}
 use Rattle.mm_ranges.specs.Overlay.{Image, bytes_at, laid}
 use Rattle.mm_views.specs.State.{Drafting}
 use Rattle.mm_frames.specs.RecHeader.{rec_header_of}
 use Rattle.mm_frames.specs.declared.rec_header.RecHeader.{RecHeader}
 use Rattle.mm_extents.specs.Heap.{live, IsHeap}
-use Rattle.mm_extents.specs.Changes.{written, IsWritten, front_of, rest_of, behind_of, put_two}
+use Rattle.mm_extents.specs.Changes.{front_of, rest_of, behind_of, put_two}
 use Rattle.mm_extents.proofs.Fields.{keeps_headers, keeps_both}
 use Rattle.mm_extents.proofs.BlockWrites.{split_written, long_laid}
 use Rattle.mm_extents.proofs.blocks.split_record.Goals as goal

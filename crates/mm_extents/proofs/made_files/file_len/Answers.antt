@@ -1,4 +1,4 @@
-use Rattle.std.proofs.Common.{◌≡◌, ◌∙◌, ℕ, ◌*◌, ◌^◌, ◌%◌, ap, arith}
+use Rattle.std.proofs.Common.{◌∙◌, ℕ, ◌*◌, ◌^◌, ◌%◌, ap, arith}
 use Rattle.std.proofs.Math.Nat.{mod-eq_of_lt}
 use Rattle.mm_extents.specs.Files as files
 use Rattle.mm_extents.proofs.FileLaws.{file_len_most}

@@ -1,4 +1,4 @@
-use Rattle.std.proofs.Common.{◌≡◌, ◌∙◌, ℕ, List, take, length, sym, ap, arith, rules, length-take-le}
+use Rattle.std.proofs.Common.{◌≡◌, ◌∙◌, ℕ, List, take, length, ap, arith, rules, length-take-le}
 use Rattle.std.proofs.lemmas.Result.{on_ok_weaker}
 use Rattle.mm_base.specs.Bytes.{part}
 use Rattle.mm_ranges.specs.Overlay.{bytes_at}
@@ -8,7 +8,6 @@ use Rattle.mm_frames.specs.declared.file_header.FileHeader.{FileHeader}
 use Rattle.mm_extents.specs.Changes.{written}
 use Rattle.mm_extents.specs.Files.{header_with}
 use Rattle.mm_extents.proofs.HeaderWrites.{header_put}
-use Rattle.mm_extents.proofs.Grown.{grown_tiled}
 use Rattle.mm_extents.proofs.made_files.put_fields.Goals as goal
 
 pub returns-clause-ok : goal.returns-clause-ok

@@ -1,4 +1,4 @@
-use Rattle.std.proofs.Common.{◌≡◌, ◌∙◌, pos, to_z, refl, arith}
+use Rattle.std.proofs.Common.{◌≡◌, pos, to_z, arith}
 use Rattle.std.specs.Int.{w32}
 use Rattle.std.proofs.lemmas.Int.{to_z_pos}
 use Rattle.mm_extents.proofs.Names.{name_again}
