@@ -1,3 +1,5 @@
 pub mod ReadTo
 pub mod LayAsks
 pub mod DiskNames
+pub mod EachAsk
+pub mod Headers

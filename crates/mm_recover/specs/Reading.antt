@@ -1,5 +1,5 @@
 -- What is read of a journal, and the first fault there.
-use Rattle.std.specs.Prelude.{◌≡◌, ◌≢◌, ℕ, ◌+◌, ◌-◌, ◌<◌, ◌≤◌, ◌^◌, true, false, List, [], ◌∷◌, ◌++◌, length, map, Option, None, Some, ◌⊎◌, IsSome}
+use Rattle.std.specs.Prelude.{◌≡◌, ◌≢◌, ℕ, Bool, ◌+◌, ◌-◌, ◌<◌, ◌≤◌, ◌^◌, true, false, List, [], ◌∷◌, ◌++◌, length, map, Option, None, Some, ◌⊎◌, IsSome}
 use Rattle.mm_section.specs.declared.section.Section.{Section}
 use Rattle.mm_crash.specs.Journal.{spelled, AllCan, HasSections, IsOurs, HasFile, HasRuns, Run, joined}
 use Rattle.mm_journal.specs.Tracks.{last_of}
@@ -68,6 +68,36 @@ pub record IsLast (sections : List Section) (n : ℕ) : Type 0 where
   pub is : n ≡ last_of sections
   pub small : n < 2 ^ 64 - 1
 
+-- ---- one file
+
+-- the file's front is neither this file's header nor no header at all
+abbrev pub IsForeign : ℕ → List ℕ → Type 0
+IsForeign n bytes = (IsOurs the_format n bytes → ⊥) × (the_format.is_broken n bytes ≡ false)
+
+-- the file's sections come after those of earlier ones
+pub record TakesFile (lsn : Option ℕ) (n : ℕ) (is_last : Bool) (bytes : List ℕ) (old all : List Section) : Type 0 where
+  pub new : List Section
+  pub is : all ≡ old ++ new
+  pub has : HasFile the_format n is_last (Some bytes) new
+  pub gapless : IsGapless lsn old → IsGapless lsn all
+
+-- Behind its header there is a gap.
+pub record HasGapBehind (lsn : Option ℕ) (n : ℕ) (bytes : List ℕ) (old : List Section) (expected found : ℕ) : Type 0 where
+  pub rest : List ℕ
+  pub is : bytes ≡ the_format.header n ++ rest
+  pub gap : HasGap lsn n rest old expected found
+
+-- The file begins with another version's header, or with none of a journal, and isn't the last.
+abbrev pub HasBadFront : ℕ → Bool → List ℕ → Type 0
+HasBadFront n is_last bytes = IsForeign n bytes ⊎ ((the_format.is_broken n bytes ≡ true) × (is_last ≡ false))
+
+abbrev pub HasFileFault : Option ℕ → ℕ → Bool → List ℕ → List Section → Recover → Type 0
+HasFileFault lsn n is_last bytes old NoMemory = Unit {0}
+HasFileFault lsn n is_last bytes old (JournalGap expected found) = HasGapBehind lsn n bytes old expected found
+HasFileFault lsn n is_last bytes old (BadHeader file) = (file ≡ n) × HasBadFront n is_last bytes
+HasFileFault lsn n is_last bytes old DiskFault = ⊥
+HasFileFault lsn n is_last bytes old (BadLength file len) = ⊥
+
 -- ---- the journal's files
 
 -- The files below the k-th, from the n-th on, are these, each with its header and its sections.
@@ -90,10 +120,6 @@ pub record ReadsAs (lsn : Option ℕ) (left : ℕ → Option (List ℕ)) (number
   pub numbers_are : numbers_of runs ≡ numbers
   pub all : joined runs ≡ sections
   pub gapless : IsGapless lsn sections
-
--- the file's front is neither this file's header nor no header at all
-abbrev pub IsForeign : ℕ → List ℕ → Type 0
-IsForeign n bytes = (IsOurs the_format n bytes → ⊥) × (the_format.is_broken n bytes ≡ false)
 
 -- The files below are good, and this one begins with another version's header, or with none of a journal where a later file is there.
 pub record HasBadHeader (lsn : Option ℕ) (left : ℕ → Option (List ℕ)) (n : ℕ) : Type 0 where

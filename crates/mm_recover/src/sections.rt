@@ -7,9 +7,9 @@ use crate::fault::Recover;
 use mm_section::{Section, read_section};
 use std::alloc::Global;
 
-// The bytes from `at` on.
+/// The bytes from `at` on.
 #[tactic(auto, using(std::proofs::lemmas::List::take_all))]
-fn tail(bytes: &[u8], at: usize) -> &[u8]
+pub fn tail(bytes: &[u8], at: usize) -> &[u8]
     requires { at ≤ length bytes.now }
     ensures { result.now ≡ drop at bytes.now }
 {
