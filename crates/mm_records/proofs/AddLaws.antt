@@ -1,23 +1,17 @@
 -- The steps of adding a record, put together.
-use Rattle.std.proofs.Common.{◌≡◌, ℕ, pos, ◌+◌, ◌-◌, ◌<◌, ◌≤◌, inl, inr, Bool, true, false, List, ◌∷◌, length, take, Option, Some, None, refl, sym, ◌∙◌, ap, subst, arith}
+use Rattle.std.proofs.Common.{◌≡◌, ℕ, ◌+◌, ◌-◌, ◌<◌, ◌≤◌, inl, inr, Bool, true, false, List, ◌∷◌, length, take, Option, Some, refl, sym, ◌∙◌, ap, arith}
 use Rattle.std.specs.Prelude.{◌&&◌, ◌==◌, not, nat_lt, if◌then◌else◌}
 use Rattle.std.specs.Option.{option_map}
-use Rattle.std.proofs.lemmas.Bool.{cases_Bool, false≢true}
+use Rattle.std.proofs.lemmas.Bool.{cases_Bool}
 use Rattle.std.proofs.lemmas.Bool.Decides.{nat_tests}
 use Rattle.std.proofs.lemmas.List.{length-take-le, take_all}
 use Rattle.mm_base.specs.Bytes.{part, overwritten}
 use Rattle.mm_base.proofs.Parts.{length-overwritten, part-overwritten}
-use Rattle.mm_ranges.specs.Overlay.{Image, bytes_at}
-use Rattle.mm_frames.specs.RecHeader.{rec_header_of}
-use Rattle.mm_frames.specs.declared.rec_header.RecHeader.{RecHeader}
-use Rattle.mm_frames.specs.declared.details.Details.{Details}
-use Rattle.mm_links.specs.Links.{Place, same, has, appended, without}
-use Rattle.mm_extents.specs.Heap.{live}
+use Rattle.mm_links.specs.Links.{Place}
 use Rattle.mm_extents.specs.Changes.{behind_of}
 use Rattle.mm_records.specs.Constants.{is_name}
 use Rattle.mm_records.specs.Shape.{Shape, list_for}
-use Rattle.mm_records.specs.Map.{live_at, name_at, IsRewritten}
-use Rattle.mm_records.specs.InHand.{StandsWith}
+use Rattle.mm_records.specs.Map.{live_at, IsRewritten}
 use Rattle.mm_records.specs.Taking.{IsTaken}
 use Rattle.mm_records.specs.Shortening.{IsShortened}
 use Rattle.mm_records.specs.Adding.{kept_of, is_rest, IsCut, IsAdded}

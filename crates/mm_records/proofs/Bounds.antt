@@ -1,19 +1,18 @@
 -- How many records and bytes a namespace can have.
-use Rattle.std.proofs.Common.{◌≡◌, ℕ, suc, ◌+◌, ◌*◌, ◌^◌, ◌<◌, ◌≤◌, ◌⊎◌, inl, inr, Bool, true, false, List, [], ◌∷◌, ◌++◌, length, Some, refl, sym, ◌∙◌, ap, subst, arith}
+use Rattle.std.proofs.Common.{◌≡◌, ℕ, ◌*◌, ◌^◌, ◌<◌, ◌≤◌, ◌⊎◌, inl, inr, Bool, true, false, List, [], ◌∷◌, ◌++◌, length, Some, refl, sym, ◌∙◌, ap, arith}
 use Rattle.std.specs.Prelude.{flat_map, sum_by, not, ◌&&◌, pos}
 use Rattle.std.proofs.lemmas.Bool.{cases_Bool, false≢true}
 use Rattle.std.proofs.lemmas.List.Sums.{sum_by-cons}
-use Rattle.mm_ranges.specs.Overlay.{Image, bytes_at}
+use Rattle.mm_ranges.specs.Overlay.{Image}
 use Rattle.mm_frames.specs.declared.rec_header.RecHeader.{RecHeader}
 use Rattle.mm_frames.specs.declared.details.Details.{Details}
 use Rattle.mm_links.specs.Links.{Place, same, has, once}
-use Rattle.mm_links.proofs.LinkLaws.{same_is, same_own, not_same, has_here, has_there, has_more, once_parts}
+use Rattle.mm_links.proofs.LinkLaws.{same_is, same_own, has_here, has_there, has_more, once_parts}
 use Rattle.mm_extents.specs.Heap.{live}
 use Rattle.mm_extents.proofs.FileLaws.{low_place, short_file}
 use Rattle.mm_extents.proofs.Walks.{not_longer}
 use Rattle.mm_records.specs.Shape.{Shape}
 use Rattle.mm_records.specs.Stands.{IsRecord, walk, room_of}
-use Rattle.mm_records.specs.Map.{name_at}
 use Rattle.mm_records.specs.InHand.{StandsWith}
 use Rattle.mm_records.proofs.Lists.{has_before_rest}
 

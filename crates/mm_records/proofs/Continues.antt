@@ -1,14 +1,13 @@
 -- The files stand again with a node's details in hand, from what a step leaves of each part.
-use Rattle.std.proofs.Common.{◌≡◌, ◌≢◌, ℕ, ℤ, List, Option, Some, None, refl, sym, ◌∙◌, ap, subst}
+use Rattle.std.proofs.Common.{◌≡◌, ℕ, ℤ, List, Option, Some, None, sym, ◌∙◌, ap, subst}
 use Rattle.std.specs.Prelude.{if◌then◌else◌, nat_lt}
 use Rattle.std.specs.FinMap.{get}
-use Rattle.mm_base.specs.Bytes.{part}
-use Rattle.mm_ranges.specs.Overlay.{Image, bytes_at}
+use Rattle.mm_ranges.specs.Overlay.{Image}
 use Rattle.mm_frames.specs.Texts.{text_in}
 use Rattle.mm_frames.specs.declared.extent_header.ExtentHeader.{ExtentHeader}
 use Rattle.mm_frames.specs.declared.details.Details.{Details}
 use Rattle.mm_nstable.specs.Nodes.{name_in, node_at, is_used, IsTable}
-use Rattle.mm_nstable.specs.Table.{Held, table_of}
+use Rattle.mm_nstable.specs.Table.{table_of}
 use Rattle.mm_nstable.specs.FreeChain.{HasFreeChain}
 use Rattle.mm_links.specs.Links.{Place, first_of, last_of}
 use Rattle.mm_extents.specs.Heap.{extent, IsHeap}
@@ -18,7 +17,7 @@ use Rattle.mm_extents.specs.Tiling.{Outline, ground, IsTiled}
 use Rattle.mm_extents.specs.Chains.{ExtentsStand}
 use Rattle.mm_extents.proofs.FileLaws.{files_kept}
 use Rattle.mm_records.specs.Shape.{Shape}
-use Rattle.mm_records.specs.Stands.{RecordsStand, ListsStand, DetailsStand, HasNode, FreeStands, IsNode, ns_in}
+use Rattle.mm_records.specs.Stands.{RecordsStand, ListsStand, DetailsStand, HasNode}
 use Rattle.mm_records.specs.Map.{name_at}
 use Rattle.mm_records.specs.InHand.{StandsWith}
 

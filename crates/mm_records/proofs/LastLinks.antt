@@ -1,8 +1,7 @@
 -- The place that a frame names is a low one.
-use Rattle.std.proofs.Common.{◌≡◌, Option, Some, None, sym, subst}
+use Rattle.std.proofs.Common.{◌≡◌, Option, Some, subst}
 use Rattle.mm_links.specs.Links.{Place}
-use Rattle.mm_ranges.specs.Overlay.{Image, bytes_at}
-use Rattle.mm_extents.specs.Heap.{deleted, Heap, IsHeap}
+use Rattle.mm_extents.specs.Heap.{Heap}
 use Rattle.mm_extents.specs.Changes.{IsLow, LowOr}
 use Rattle.mm_records.specs.Taking.{IsBlockAt, BlockOr}
 

@@ -1,16 +1,16 @@
 -- Details are put back and a payload is written.
-use Rattle.std.proofs.Common.{◌≡◌, ℕ, ◌+◌, ◌<◌, ◌≤◌, true, List, length, Option, Some, refl, sym, ◌∙◌, ap, subst, arith}
+use Rattle.std.proofs.Common.{◌≡◌, ℕ, ◌+◌, ◌<◌, ◌≤◌, List, length, Some, refl, sym, ◌∙◌, ap, subst, arith}
 use Rattle.std.specs.FinMap.{get, insert}
 use Rattle.mm_base.specs.Bytes.{overwritten}
 use Rattle.mm_ranges.specs.Overlay.{Image, bytes_at}
 use Rattle.mm_frames.specs.declared.details.Details.{Details}
-use Rattle.mm_nstable.specs.Nodes.{name_in, node_at, is_used, IsTable, SameNames}
+use Rattle.mm_nstable.specs.Nodes.{name_in, node_at, IsTable, SameNames}
 use Rattle.mm_nstable.specs.Table.{Held, table_of}
 use Rattle.mm_links.specs.Links.{Place}
 use Rattle.mm_extents.specs.Changes.{loc, len_of}
 use Rattle.mm_records.specs.Constants.{constants_of, SameConstants}
 use Rattle.mm_records.specs.Shape.{Shape}
-use Rattle.mm_records.specs.Stands.{Stands, IsOwn, IsNode, ns_in}
+use Rattle.mm_records.specs.Stands.{Stands, IsOwn, ns_in}
 use Rattle.mm_records.specs.Map.{live_at, name_at, HasRecord, IsRewritten}
 use Rattle.mm_records.specs.InHand.{StandsWith}
 use Rattle.mm_records.proofs.Owning.{Owns, owns}

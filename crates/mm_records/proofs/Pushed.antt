@@ -1,5 +1,5 @@
 -- A new deleted block heads the list of its length.
-use Rattle.std.proofs.Common.{◌≡◌, ◌≢◌, ℕ, ℤ, pos, ◌+◌, inl, inr, Bool, true, false, List, ◌∷◌, length, Option, Some, refl, sym, ◌∙◌, ap, subst}
+use Rattle.std.proofs.Common.{◌≡◌, ◌≢◌, ℕ, ℤ, pos, ◌+◌, inl, inr, Bool, true, false, List, ◌∷◌, length, Option, Some, sym, ◌∙◌, ap, subst}
 use Rattle.std.specs.Prelude.{◌&&◌, ◌==◌, not, if◌then◌else◌}
 use Rattle.std.specs.Option.{option_map}
 use Rattle.std.proofs.lemmas.Bool.{cases_Bool, eqb-true, eq-eqb}
@@ -8,10 +8,10 @@ use Rattle.mm_frames.specs.Texts.{text_in}
 use Rattle.mm_frames.specs.declared.extent_header.ExtentHeader.{ExtentHeader}
 use Rattle.mm_frames.specs.declared.deleted_header.DeletedHeader.{DeletedHeader}
 use Rattle.mm_links.specs.Links.{Place, same, has, once, first_of, next_in}
-use Rattle.mm_links.proofs.LinkLaws.{same_is, same_own, same_not, not_same, both, if_true, if_false, has_more, has_there, has_here, next_here, next_there}
+use Rattle.mm_links.proofs.LinkLaws.{same_is, both, if_true, if_false, has_more, has_there, has_here, next_here, next_there}
 use Rattle.mm_extents.specs.Heap.{Cell, extent, deleted}
 use Rattle.mm_extents.specs.Changes.{loc_or}
-use Rattle.mm_extents.specs.Tiling.{an_extent, outline, ground, IsTiled, IsHome}
+use Rattle.mm_extents.specs.Tiling.{an_extent, outline, ground, IsTiled}
 use Rattle.mm_records.specs.Constants.{is_name}
 use Rattle.mm_records.specs.Shape.{Shape, list_for}
 use Rattle.mm_records.specs.Stands.{ListsStand, IsDeleted}

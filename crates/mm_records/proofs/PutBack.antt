@@ -1,5 +1,5 @@
 -- The files stand once the details in hand are written to their node.
-use Rattle.std.proofs.Common.{◌≡◌, ◌≢◌, ℕ, ◌<◌, ◌⊎◌, inl, inr, Bool, true, false, cond, List, Option, Some, refl, sym, ◌∙◌, ap, subst}
+use Rattle.std.proofs.Common.{◌≡◌, ◌≢◌, ℕ, ◌<◌, inl, inr, Bool, true, false, cond, List, Option, Some, refl, sym, ◌∙◌, ap, subst}
 use Rattle.std.specs.Prelude.{if◌then◌else◌, nat_lt}
 use Rattle.std.specs.FinMap.{get, insert, get-insert}
 use Rattle.std.proofs.lemmas.Bool.{cases_Bool, false≢true}
@@ -9,13 +9,10 @@ use Rattle.std.proofs.Common.{ℤ, None, arith}
 use Rattle.mm_base.specs.Bytes.{part}
 use Rattle.mm_ranges.specs.Overlay.{Image, bytes_at}
 use Rattle.mm_frames.specs.Texts.{text_in}
-use Rattle.mm_frames.specs.declared.extent_header.ExtentHeader.{ExtentHeader}
 use Rattle.mm_frames.specs.declared.details.Details.{Details}
-use Rattle.mm_nstable.specs.Nodes.{name_in, node_at, details_in, IsTable}
+use Rattle.mm_nstable.specs.Nodes.{node_at, details_in, IsTable}
 use Rattle.mm_nstable.specs.Table.{Held, table_of}
 use Rattle.mm_nstable.proofs.Tables.{table_at}
-use Rattle.mm_links.specs.Links.{Place}
-use Rattle.mm_extents.specs.Heap.{extent}
 use Rattle.mm_extents.specs.Changes.{len_of}
 use Rattle.mm_extents.specs.Files.{header_unused, unused_in}
 use Rattle.mm_extents.specs.Tiling.{ground, IsTiled}
@@ -23,7 +20,7 @@ use Rattle.mm_extents.proofs.FileLaws.{files_kept}
 use Rattle.mm_extents.proofs.Writes.{heap_same}
 use Rattle.mm_records.specs.Constants.{is_name, constants_of, SameConstants}
 use Rattle.mm_records.specs.Shape.{Shape}
-use Rattle.mm_records.specs.Stands.{IsNode, HasNode, Stands, FreeStands, DetailsStand, ns_in}
+use Rattle.mm_records.specs.Stands.{IsNode, HasNode, Stands, DetailsStand, ns_in}
 use Rattle.mm_records.specs.Map.{name_at}
 use Rattle.mm_records.specs.InHand.{StandsWith}
 use Rattle.mm_records.proofs.ConstantLaws.{free_chain_stays, same_constants}

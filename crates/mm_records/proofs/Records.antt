@@ -1,5 +1,5 @@
 -- A live record of a node in hand, as the files have it.
-use Rattle.std.proofs.Common.{◌≡◌, ℕ, ℤ, pos, ◌+◌, ◌≤◌, List, length, Option, Some, sym, ◌∙◌, ap}
+use Rattle.std.proofs.Common.{◌≡◌, ℕ, pos, ◌+◌, ◌≤◌, List, length, Option, Some, ◌∙◌, ap}
 use Rattle.std.specs.Option.{option_map}
 use Rattle.mm_base.specs.Bytes.{part}
 use Rattle.mm_ranges.specs.Overlay.{Image, bytes_at}

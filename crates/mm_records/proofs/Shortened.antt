@@ -1,27 +1,27 @@
 -- After a record was left its front bytes, all stands again.
-use Rattle.std.proofs.Common.{◌≡◌, ◌≢◌, ℕ, ℤ, pos, ◌+◌, ◌-◌, ◌<◌, ◌≤◌, inl, inr, Bool, true, false, List, [], ◌∷◌, length, take, drop, Option, Some, None, refl, sym, ◌∙◌, ap, subst, arith, length-drop}
-use Rattle.std.specs.Prelude.{◌&&◌, ◌==◌, if◌then◌else◌, sum_by, slice_index_or, flat_map}
+use Rattle.std.proofs.Common.{◌≡◌, ℕ, ℤ, pos, ◌+◌, ◌-◌, ◌<◌, ◌≤◌, inl, inr, Bool, true, false, List, ◌∷◌, length, take, drop, Option, Some, None, refl, sym, ◌∙◌, ap, subst, arith, length-drop}
+use Rattle.std.specs.Prelude.{◌&&◌, ◌==◌, if◌then◌else◌, sum_by, slice_index_or}
 use Rattle.std.specs.Option.{option_map}
-use Rattle.std.proofs.lemmas.Bool.{cases_Bool, false≢true, eqb-true}
+use Rattle.std.proofs.lemmas.Bool.{cases_Bool, eqb-true}
 use Rattle.std.proofs.lemmas.List.{length-take-le}
 use Rattle.mm_base.specs.Places.{null}
-use Rattle.mm_ranges.specs.Overlay.{Image, bytes_at}
+use Rattle.mm_ranges.specs.Overlay.{Image}
 use Rattle.mm_frames.specs.Texts.{text_in}
 use Rattle.mm_frames.specs.declared.extent_header.ExtentHeader.{ExtentHeader}
 use Rattle.mm_frames.specs.declared.rec_header.RecHeader.{RecHeader}
 use Rattle.mm_frames.specs.declared.deleted_header.DeletedHeader.{DeletedHeader}
 use Rattle.mm_frames.specs.declared.details.Details.{Details}
 use Rattle.mm_links.specs.Links.{Place, same, has, once, first_of, last_of, without}
-use Rattle.mm_links.proofs.LinkLaws.{same_is, same_own, same_not, not_same, if_true, if_false, has_without, without_self, relinked, has_here, has_there, has_more}
-use Rattle.mm_extents.specs.Heap.{Cell, extent, live, deleted, size, Heap, IsHeap}
-use Rattle.mm_extents.specs.Changes.{loc, loc_or, ofs_or, KeepsHeaders, front_of, rest_of, behind_of, put_two}
+use Rattle.mm_links.proofs.LinkLaws.{same_is, same_not, not_same, if_true, if_false, without_self, relinked}
+use Rattle.mm_extents.specs.Heap.{Cell, extent, live, deleted, IsHeap}
+use Rattle.mm_extents.specs.Changes.{loc, loc_or, ofs_or, KeepsHeaders, front_of, rest_of, behind_of}
 use Rattle.mm_extents.specs.Files.{unused_in}
-use Rattle.mm_extents.specs.Tiling.{Outline, a_block, outline, ground, IsBlock, IsTiled}
+use Rattle.mm_extents.specs.Tiling.{a_block, outline, ground, IsBlock, IsTiled}
 use Rattle.mm_extents.specs.Chains.{ext_next, ext_prev, ExtentsStand}
 use Rattle.mm_extents.proofs.Within.{two_first, two_second, two_there}
 use Rattle.mm_records.specs.Constants.{constants_of, is_name}
 use Rattle.mm_records.specs.Shape.{Shape, list_for, rec_next, rec_prev}
-use Rattle.mm_records.specs.Stands.{RecordsStand, ListsStand, DetailsStand, IsRecord, NamesEnds, ext_len, len_at, room_of, walk}
+use Rattle.mm_records.specs.Stands.{RecordsStand, ListsStand, DetailsStand, IsRecord, ext_len, len_at, room_of, walk}
 use Rattle.mm_records.specs.Map.{ofs_of, extent_of, owner, live_room, live_at, name_at}
 use Rattle.mm_records.specs.InHand.{StandsWith}
 use Rattle.mm_records.specs.Shortening.{cut_header, shortened_shape, CanCut, IsShortened}
@@ -29,7 +29,7 @@ use Rattle.mm_records.proofs.Freed.{name_is, name_own}
 use Rattle.mm_records.proofs.ConstantLaws.{constants_stay}
 use Rattle.mm_records.proofs.Owning.{Lives, lives, extent_there}
 use Rattle.mm_records.proofs.Counts.{SameBut, sum_off, sum_without}
-use Rattle.mm_records.proofs.Bounds.{Owner, has_flat, walk_once, flat_has}
+use Rattle.mm_records.proofs.Bounds.{has_flat, walk_once, flat_has}
 use Rattle.mm_records.proofs.Splits.{split_tiled}
 use Rattle.mm_records.proofs.Pushed.{lists_pushed}
 use Rattle.mm_records.proofs.Continues.{continues, tiled_kept}

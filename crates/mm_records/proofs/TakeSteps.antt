@@ -1,5 +1,5 @@
 -- What each step of taking a block asks for and gives, at the numbers that the code reads.
-use Rattle.std.proofs.Common.{◌≡◌, ◌≢◌, ℕ, ℤ, pos, negsuc, ◌+◌, ◌^◌, ◌<◌, ◌≤◌, inl, inr, true, false, List, [], ◌∷◌, ◌++◌, length, Option, Some, None, refl, sym, ◌∙◌, ap, subst, arith}
+use Rattle.std.proofs.Common.{◌≡◌, ◌≢◌, ℕ, ℤ, pos, negsuc, ◌+◌, ◌^◌, ◌<◌, ◌≤◌, true, false, List, [], ◌∷◌, ◌++◌, length, Option, Some, None, refl, sym, ◌∙◌, ap, subst, arith}
 use Rattle.std.specs.Prelude.{slice_index_or, ◌==◌}
 use Rattle.std.specs.Option.{option_map}
 use Rattle.std.proofs.lemmas.Bool.{false≢true}
@@ -13,29 +13,27 @@ use Rattle.mm_frames.specs.declared.extent_header.ExtentHeader.{ExtentHeader}
 use Rattle.mm_frames.specs.declared.rec_header.RecHeader.{RecHeader}
 use Rattle.mm_frames.specs.declared.deleted_header.DeletedHeader.{DeletedHeader}
 use Rattle.mm_frames.specs.declared.details.Details.{Details}
-use Rattle.mm_views.specs.State.{Drafting}
-use Rattle.mm_links.specs.Links.{Place, StandsBefore, same, has, once, first_of, last_of, next_in}
-use Rattle.mm_links.proofs.LinkLaws.{same_of, same_not, next_here, next_there, once_parts, has_last, has_before, has_first}
+use Rattle.mm_links.specs.Links.{Place, StandsBefore, has, once, last_of, next_in}
+use Rattle.mm_links.proofs.LinkLaws.{same_of, same_not, next_here, next_there, once_parts, has_last, has_before}
 use Rattle.mm_extents.specs.Heap.{Cell, extent, live, deleted, Heap, IsHeap, change}
-use Rattle.mm_extents.specs.Changes.{loc, loc_or, ofs_or, IsLow, LowOr, IsWritten, KeepsHeaders, taken}
+use Rattle.mm_extents.specs.Changes.{loc_or, ofs_or, IsLow, LowOr, KeepsHeaders, taken}
 use Rattle.mm_extents.specs.Tiling.{outline, ground}
-use Rattle.mm_extents.proofs.FileLaws.{low_place, short_file}
+use Rattle.mm_extents.proofs.FileLaws.{low_place}
 use Rattle.mm_extents.proofs.Spots.{low_file}
 use Rattle.mm_extents.proofs.Walks.{has_middle}
-use Rattle.mm_extents.proofs.Fields.{keeps_both}
 use Rattle.mm_records.specs.Constants.{constants_of}
 use Rattle.mm_records.specs.Shape.{Shape, list_for}
-use Rattle.mm_records.specs.Stands.{IsDeleted, DetailsStand, walk, room_of, HasNode}
+use Rattle.mm_records.specs.Stands.{IsDeleted, DetailsStand, walk, HasNode}
 use Rattle.mm_records.specs.Map.{name_at}
-use Rattle.mm_records.specs.Passing.{IsLive, HasExtent, LinkFits, Fits}
+use Rattle.mm_records.specs.Passing.{HasExtent, LinkFits, Fits}
 use Rattle.mm_records.specs.Freeing.{forward, backward}
 use Rattle.mm_records.specs.InHand.{StandsWith}
 use Rattle.mm_records.specs.Searching.{IsChosen}
-use Rattle.mm_records.specs.Taking.{list_passed, IsBlockAt, BlockOr, PassFits, IsLastLink, taken_shape, IsTaken}
-use Rattle.mm_records.proofs.Passing.{Inside, kept_by}
+use Rattle.mm_records.specs.Taking.{IsBlockAt, BlockOr, PassFits, IsLastLink, taken_shape, IsTaken}
+use Rattle.mm_records.proofs.Passing.{Inside}
 use Rattle.mm_records.proofs.Bare.{bare, live_bare, extent_bare, bare_next, bare_first}
 use Rattle.mm_records.proofs.Cells.{forward_stays}
-use Rattle.mm_records.proofs.Taken.{h1, h2, h3, block1, bare2, rec_isnt, isnt_ext}
+use Rattle.mm_records.proofs.Taken.{h1, h2, h3, block1, bare2, isnt_ext}
 use Rattle.mm_records.proofs.TakenStands.{ground_same, extents_stand, records_stand, lists_stand, extent_was}
 use Rattle.mm_records.proofs.TakenCounts.{own_details, other_details, is_taken}
 use Rattle.mm_records.proofs.Lists.{has_before_rest}

@@ -1,24 +1,21 @@
 -- A deleted block is taken from its list and put behind the last record of its extent.
 use Rattle.std.proofs.Common.{◌≡◌, ℕ, ℤ, pos, negsuc, inl, inr, true, false, List, [], ◌∷◌, Option, Some, None, refl, sym, ◌∙◌, ap, subst}
 use Rattle.std.specs.Prelude.{if◌then◌else◌}
-use Rattle.std.proofs.lemmas.Bool.{cases_Bool, false≢true}
-use Rattle.mm_base.specs.Places.{null}
-use Rattle.mm_base.specs.declared.place.DiskLoc.{DiskLoc}
-use Rattle.mm_frames.specs.Texts.{text_in}
+use Rattle.std.proofs.lemmas.Bool.{cases_Bool}
 use Rattle.mm_frames.specs.declared.extent_header.ExtentHeader.{ExtentHeader}
 use Rattle.mm_frames.specs.declared.rec_header.RecHeader.{RecHeader}
 use Rattle.mm_frames.specs.declared.deleted_header.DeletedHeader.{DeletedHeader}
 use Rattle.mm_links.specs.Links.{Place, StandsBefore, same, has, once, first_of, last_of, next_in, appended, is}
-use Rattle.mm_links.proofs.LinkLaws.{same_is, same_of, same_not, not_same, if_true, if_false, has_last, has_before, some_is, isnt_some, is_some, not_behind_first, before_once}
-use Rattle.mm_extents.specs.Heap.{Cell, extent, live, deleted, Heap, change}
+use Rattle.mm_links.proofs.LinkLaws.{same_is, same_not, not_same, if_true, if_false, has_last, has_before, some_is, isnt_some, not_behind_first, before_once}
+use Rattle.mm_extents.specs.Heap.{extent, live, deleted, Heap, change}
 use Rattle.mm_extents.specs.Changes.{loc, loc_or, ofs_or, next_set, first_set, last_set, deleted_next_set, taken}
 use Rattle.mm_extents.proofs.Writes.{changed_here, changed_there}
 use Rattle.mm_records.specs.Shape.{Shape, rec_next, rec_prev}
-use Rattle.mm_records.specs.Stands.{RecordsStand, IsRecord}
+use Rattle.mm_records.specs.Stands.{RecordsStand}
 use Rattle.mm_records.specs.Freeing.{forward, backward}
 use Rattle.mm_records.specs.Taking.{list_passed, IsBlockAt}
-use Rattle.mm_records.proofs.Cells.{stays, ext_first, ext_last, LiveAt, prev_next, prev_first, next_last, next_first, prev_last, first_next, first_last, last_next, last_first, forward_stays}
-use Rattle.mm_records.proofs.Bare.{bare, block_next, bare_next, bare_first, bare_last, bare_relinked, next_relinked, prev_relinked, first_relinked, last_relinked, block_next_set, block_first, block_last, passed_stays, live_bare, DeletedAt, deleted_bare, ExtentLike, extent_bare}
+use Rattle.mm_records.proofs.Cells.{stays, ext_first, ext_last, prev_next, prev_first, next_last, next_first, prev_last, first_next, first_last, last_next, last_first, forward_stays}
+use Rattle.mm_records.proofs.Bare.{bare, block_next, bare_next, bare_first, bare_last, bare_relinked, next_relinked, prev_relinked, first_relinked, last_relinked, block_next_set, block_first, block_last, passed_stays, live_bare, DeletedAt, deleted_bare, extent_bare}
 
 -- the first and the last of a chain with one more
 pub first_kept : (xs : List Place) (p y : Place) → last_of xs ≡ Some y → first_of (appended xs p) ≡ first_of xs

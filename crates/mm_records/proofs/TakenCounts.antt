@@ -3,21 +3,20 @@ use Rattle.std.proofs.Common.{◌≡◌, ℕ, pos, ◌+◌, ◌<◌, inl, inr, B
 use Rattle.std.specs.Prelude.{if◌then◌else◌, ◌==◌, sum_by, slice_index_or}
 use Rattle.std.proofs.lemmas.Bool.{cases_Bool, false≢true, eqb-true, eq-eqb}
 use Rattle.mm_base.specs.Places.{null}
-use Rattle.mm_base.specs.declared.place.DiskLoc.{DiskLoc}
 use Rattle.mm_frames.specs.Texts.{text_in}
 use Rattle.mm_frames.specs.declared.extent_header.ExtentHeader.{ExtentHeader}
 use Rattle.mm_frames.specs.declared.deleted_header.DeletedHeader.{DeletedHeader}
 use Rattle.mm_frames.specs.declared.details.Details.{Details}
 use Rattle.mm_links.specs.Links.{Place, StandsBefore, same, has, once, first_of, last_of, next_in, appended, without}
-use Rattle.mm_links.proofs.LinkLaws.{same_own, same_not, not_same, if_true, if_false, has_here, has_there, without_here, without_there, without_none, first_moves, first_stays}
-use Rattle.mm_links.proofs.Appending.{has_appended, has_new, once_appended}
+use Rattle.mm_links.proofs.LinkLaws.{same_own, if_true, if_false, has_here, has_there, without_here, without_there, first_moves, first_stays}
+use Rattle.mm_links.proofs.Appending.{has_new, once_appended}
 use Rattle.mm_extents.specs.Heap.{Cell, extent, live, deleted}
 use Rattle.mm_extents.specs.Changes.{loc_or}
 use Rattle.mm_extents.specs.Chains.{ExtentsStand}
 use Rattle.mm_records.specs.Constants.{constants_of, is_name}
 use Rattle.mm_records.specs.Shape.{Shape, list_for}
 use Rattle.mm_records.specs.Stands.{RecordsStand, ListsStand, DetailsStand, room_of, walk, len_at}
-use Rattle.mm_records.specs.Map.{ofs_of, extent_of, owner, live_room, live_at}
+use Rattle.mm_records.specs.Map.{ofs_of, extent_of, owner, live_room}
 use Rattle.mm_records.specs.Taking.{taken_shape, IsTaken}
 use Rattle.mm_records.proofs.Freed.{name_own}
 use Rattle.mm_records.proofs.ConstantLaws.{constants_stay}

@@ -1,26 +1,24 @@
 -- After a block was taken for a record, chains, lists and outline stand again.
-use Rattle.std.proofs.Common.{◌≡◌, ℕ, ℤ, pos, negsuc, ◌+◌, inl, inr, Bool, true, false, List, [], ◌∷◌, length, Option, Some, None, refl, sym, ◌∙◌, ap, subst}
-use Rattle.std.specs.Prelude.{if◌then◌else◌}
+use Rattle.std.proofs.Common.{◌≡◌, ℕ, pos, ◌+◌, inl, inr, true, false, List, length, Option, Some, None, refl, sym, ◌∙◌, ap, subst}
 use Rattle.std.specs.Option.{option_map}
 use Rattle.std.proofs.lemmas.Bool.{cases_Bool, false≢true}
-use Rattle.mm_base.specs.declared.place.DiskLoc.{DiskLoc}
 use Rattle.mm_frames.specs.Texts.{text_in}
 use Rattle.mm_frames.specs.declared.extent_header.ExtentHeader.{ExtentHeader}
 use Rattle.mm_frames.specs.declared.rec_header.RecHeader.{RecHeader}
 use Rattle.mm_frames.specs.declared.deleted_header.DeletedHeader.{DeletedHeader}
-use Rattle.mm_links.specs.Links.{Place, StandsBefore, same, has, once, first_of, last_of, next_in, appended, without, is, IsLinked}
-use Rattle.mm_links.proofs.LinkLaws.{same_is, same_own, same_not, not_same, if_true, if_false, has_next, has_before, has_without, has_of_without, next_absent, next_without, once_without, without_none, is_some, isnt_some, some_is, relinked, last_next, has_last}
+use Rattle.mm_links.specs.Links.{Place, StandsBefore, same, has, once, last_of, next_in, appended, without, is, IsLinked}
+use Rattle.mm_links.proofs.LinkLaws.{same_is, same_own, same_not, not_same, if_true, if_false, has_next, has_before, has_without, has_of_without, next_without, once_without, without_none, is_some, isnt_some, some_is, relinked, last_next, has_last}
 use Rattle.mm_links.proofs.Appending.{has_appended, has_stays, has_new, last_new, linked_on}
-use Rattle.mm_extents.specs.Heap.{Cell, extent, live, deleted, Heap}
-use Rattle.mm_extents.specs.Changes.{loc, loc_or, ofs_or}
+use Rattle.mm_extents.specs.Heap.{Cell, extent, live, deleted}
+use Rattle.mm_extents.specs.Changes.{loc_or, ofs_or}
 use Rattle.mm_extents.specs.Tiling.{outline, ground}
 use Rattle.mm_extents.specs.Chains.{ext_next, ext_prev, ExtentsStand}
 use Rattle.mm_records.specs.Shape.{Shape, list_for, rec_next, rec_prev}
 use Rattle.mm_records.specs.Stands.{RecordsStand, ListsStand, IsRecord, IsDeleted, NamesEnds, ext_len, room_of}
 use Rattle.mm_records.specs.Taking.{IsBlockAt, taken_shape}
-use Rattle.mm_records.proofs.Cells.{ext_first, ext_last, LiveAt}
-use Rattle.mm_records.proofs.Bare.{bare, block_next, live_bare, DeletedAt, deleted_bare, ExtentLike, extent_bare, bare_ext_next, bare_ext_prev, bare_ext_len, bare_outline, bare_room}
-use Rattle.mm_records.proofs.Taken.{new_head, bare_aft, here_aft, next_aft, prev_aft, first_aft, last_aft, first_other, last_other, block_aft, rec_isnt}
+use Rattle.mm_records.proofs.Cells.{ext_first, ext_last}
+use Rattle.mm_records.proofs.Bare.{bare, block_next, live_bare, deleted_bare, ExtentLike, extent_bare, bare_ext_next, bare_ext_prev, bare_ext_len, bare_outline, bare_room}
+use Rattle.mm_records.proofs.Taken.{new_head, bare_aft, here_aft, next_aft, prev_aft, first_aft, last_aft, first_other, last_other, block_aft}
 
 some_same : {A : Type 0} (x y : A) → Some x ≡ Some y → x ≡ y
 some_same x y e = cc

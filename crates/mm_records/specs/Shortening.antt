@@ -1,6 +1,5 @@
 -- What leaving a record its front bytes makes of a shape.
-use Rattle.std.specs.Prelude.{◌≡◌, ℕ, ℤ, pos, ◌+◌, ◌-◌, ◌≤◌, ◌&&◌, ◌==◌, false, if◌then◌else◌, List, ◌∷◌, length, take, Some}
-use Rattle.mm_base.specs.declared.place.DiskLoc.{DiskLoc}
+use Rattle.std.specs.Prelude.{◌≡◌, ℕ, pos, ◌+◌, ◌-◌, ◌≤◌, ◌&&◌, ◌==◌, false, if◌then◌else◌, List, ◌∷◌, length, take, Some}
 use Rattle.mm_frames.specs.declared.rec_header.RecHeader.{RecHeader}
 use Rattle.mm_frames.specs.declared.deleted_header.DeletedHeader.{DeletedHeader}
 use Rattle.mm_links.specs.Links.{Place, same, first_of}

@@ -4,7 +4,7 @@ use Rattle.mm_base.specs.declared.place.DiskLoc.{DiskLoc}
 use Rattle.mm_ranges.specs.Overlay.{Image}
 use Rattle.mm_frames.specs.declared.deleted_header.DeletedHeader.{DeletedHeader}
 use Rattle.mm_frames.specs.declared.extent_header.ExtentHeader.{ExtentHeader}
-use Rattle.mm_links.specs.Links.{Place, same, has, first_of, last_of, next_in, appended, without}
+use Rattle.mm_links.specs.Links.{Place, same, has, last_of, appended, without}
 use Rattle.mm_extents.specs.Heap.{extent, deleted, Heap, IsHeap, change}
 use Rattle.mm_extents.specs.Changes.{loc_or, ofs_or, LowOr, deleted_next_set, taken}
 use Rattle.mm_records.specs.Shape.{Shape}

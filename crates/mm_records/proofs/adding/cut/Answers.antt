@@ -1,9 +1,8 @@
-use Rattle.std.proofs.Common.{◌≡◌, ◌∙◌, ℕ, pos, ◌+◌, ◌≤◌, length, to_z, of_z, refl, rules, sym, ap, subst, arith}
+use Rattle.std.proofs.Common.{◌≡◌, ◌∙◌, ◌+◌, ◌≤◌, length, rules, sym, arith}
 use Rattle.std.specs.Prelude.{FitsSigned}
 use Rattle.std.specs.Int.{w32}
 use Rattle.std.proofs.lemmas.Int.{to_z-of_z}
 use Rattle.std.proofs.lemmas.Result.{on_ok_weaker}
-use Rattle.mm_links.specs.Links.{Place}
 use Rattle.mm_records.specs.Map.{name_at}
 use Rattle.mm_records.proofs.FreeSteps.{nonneg, same_number}
 use Rattle.mm_records.proofs.Records.{record_inside, head_len}

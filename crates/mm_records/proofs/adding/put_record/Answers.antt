@@ -1,4 +1,4 @@
-use Rattle.std.proofs.Common.{◌≡◌, ◌∙◌, ℕ, ◌+◌, ◌-◌, ◌≤◌, List, length, take, Some, sym, ap, subst, arith}
+use Rattle.std.proofs.Common.{◌≡◌, ◌∙◌, ℕ, ◌+◌, ◌-◌, List, length, take, Some, sym, ap, subst, arith}
 use Rattle.std.proofs.lemmas.Result.{on_ok_weaker}
 use Rattle.std.specs.FinMap.{get}
 use Rattle.mm_links.specs.Links.{Place}
@@ -8,7 +8,6 @@ use Rattle.mm_records.specs.Constants.{constants_of, SameConstants}
 use Rattle.mm_records.specs.Stands.{ns_in}
 use Rattle.mm_records.specs.Map.{name_at, live_at}
 use Rattle.mm_records.specs.Adding.{kept_of, IsCut}
-use Rattle.mm_records.specs.Taking.{IsTaken}
 use Rattle.mm_records.proofs.AddLaws.{cut_long, kept_least, added}
 use Rattle.mm_records.proofs.adding.put_record.Goals as goal
 

@@ -1,11 +1,10 @@
-use Rattle.std.proofs.Common.{◌≡◌, ◌∙◌, ℕ, ℤ, pos, ◌+◌, ◌-◌, ◌<◌, ◌≤◌, List, length, to_z, of_z, refl, rules, sym, ap, subst, arith}
+use Rattle.std.proofs.Common.{◌≡◌, ◌∙◌, ℕ, pos, ◌+◌, ◌-◌, ◌<◌, ◌≤◌, length, to_z, rules, sym, ap, subst, arith}
 use Rattle.std.specs.Prelude.{FitsSigned, slice_index_or, ◌==◌, sum_by}
 use Rattle.std.specs.Int.{w32}
 use Rattle.std.proofs.lemmas.Int.{to_z-of_z, to_z_pos}
 use Rattle.std.proofs.lemmas.List.{get_or_default}
 use Rattle.mm_base.specs.Places.{null}
 use Rattle.mm_links.specs.Links.{Place}
-use Rattle.mm_ranges.specs.Overlay.{bytes_at}
 use Rattle.mm_frames.specs.declared.rec_header.RecHeader.{RecHeader}
 use Rattle.mm_frames.specs.declared.deleted_header.DeletedHeader.{DeletedHeader}
 use Rattle.mm_extents.specs.Heap.{live, IsHeap}
@@ -15,7 +14,6 @@ use Rattle.mm_records.specs.Shape.{list_for}
 use Rattle.mm_frames.specs.declared.details.Details.{Details}
 use Rattle.mm_records.specs.Stands.{room_of, walk}
 use Rattle.mm_records.specs.Map.{name_at}
-use Rattle.mm_records.specs.Shortening.{cut_header}
 use Rattle.mm_records.proofs.FreeSteps.{nonneg, same_number}
 use Rattle.mm_records.proofs.Shortened.{own, here, len_is, new, size_less, own_details, is_shortened, stands_shortened}
 use Rattle.mm_records.proofs.shortening.shorten.Goals as goal

@@ -1,10 +1,9 @@
-use Rattle.std.proofs.Common.{◌≡◌, ◌∙◌, ℕ, pos, negsuc, Option, Some, None, sym, ap, arith}
+use Rattle.std.proofs.Common.{◌∙◌, sym, ap, arith}
 use Rattle.std.specs.Int.{w32}
 use Rattle.std.proofs.lemmas.Int.{to_z_pos}
-use Rattle.mm_links.specs.Links.{Place}
 use Rattle.mm_frames.specs.declared.extent_header.ExtentHeader.{ExtentHeader}
 use Rattle.mm_extents.specs.Heap.{extent}
-use Rattle.mm_extents.specs.Changes.{ofs_or, IsLow, LowOr}
+use Rattle.mm_extents.specs.Changes.{ofs_or}
 use Rattle.mm_records.proofs.LastLinks.{low_named}
 use Rattle.mm_records.proofs.taking.last_ofs.Goals as goal
 

@@ -1,7 +1,6 @@
-use Rattle.std.proofs.Common.{◌≡◌, ◌≤◌, ◌+◌, length, Option, Some, sym, subst, arith}
+use Rattle.std.proofs.Common.{Option, sym, subst, arith}
 use Rattle.std.proofs.lemmas.Result.{on_ok_weaker}
 use Rattle.mm_links.specs.Links.{Place}
-use Rattle.mm_ranges.specs.Overlay.{bytes_at}
 use Rattle.mm_extents.specs.Heap.{deleted, IsHeap}
 use Rattle.mm_records.specs.Taking.{list_passed}
 use Rattle.mm_records.proofs.Passing.{kept_by}
