@@ -9,3 +9,6 @@ pub mod LineSteps
 pub mod LoopSteps
 pub mod WordLaws
 pub mod DocLaws
+pub mod FormLaws
+pub mod ScriptLaws
+pub mod ReadLaws

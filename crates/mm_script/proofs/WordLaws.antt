@@ -104,7 +104,7 @@ skip_other b t is = by (is_space b) is
     by true e = absurd (cc)
     by false e = refl
 
-front_again : (w rest : List ℕ) → list_all is_other w ≡ true → Ends rest → front (w ++ rest) ≡ w
+pub front_again : (w rest : List ℕ) → list_all is_other w ≡ true → Ends rest → front (w ++ rest) ≡ w
 unfolding front
 front_again [] [] is ends = refl
 front_again [] (b ∷ rest) is ends = ap (λ (s : Bool). cond s [] (b ∷ front rest)) ends
@@ -114,7 +114,7 @@ front_again (b ∷ w) rest is ends = let both = and_parts (is_other b) (list_all
     by true e later = absurd (cc)
     by false e later = ap (λ (t : List ℕ). b ∷ t) later
 
-behind_again : (w rest : List ℕ) → list_all is_other w ≡ true → Ends rest → behind (w ++ rest) ≡ rest
+pub behind_again : (w rest : List ℕ) → list_all is_other w ≡ true → Ends rest → behind (w ++ rest) ≡ rest
 unfolding behind
 behind_again [] [] is ends = refl
 behind_again [] (b ∷ rest) is ends = ap (λ (s : Bool). cond s (b ∷ rest) (behind rest)) ends
@@ -135,6 +135,10 @@ word_behind n (b ∷ w) rest is ends =
 pub word_again : (text w rest : List ℕ) → NextWord w text rest → next_word text ≡ Some (w, rest)
 word_again text w rest x =
     ap next_word (x.next.2 ∙ ap (λ (p : List ℕ). spaces (suc x.next.0) ++ (p ++ rest)) x.next.3) ∙ word_behind x.next.0 w rest x.word_is x.ends
+
+-- a word has one place
+pub next_same : (word text r s : List ℕ) → NextWord word text r → NextWord word text s → r ≡ s
+next_same word text r s x y = ap (λ (o : Option (List ℕ × List ℕ)). (or_this (word, r) o).1) (sym (word_again text word r x) ∙ word_again text word s y)
 
 -- ---- words that pass a test
 

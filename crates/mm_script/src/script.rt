@@ -2,10 +2,11 @@
 
 ghost use Rattle.std.specs.Prelude.{◌≡◌, ◌∷◌, ◌≤◌, ◌<◌, ◌+◌, ◌⊎◌, ◌&&◌, [], ℕ, List, length, position, nat_lt, IfOk, IfErr, OnOk, ◌++◌};
 ghost use Rattle.std.specs.List.{position_or_len, cons_option};
+ghost use Rattle.mm_model.specs.declared.action.Action.{Action};
 ghost use Rattle.mm_script.specs.Grammar.{setting};
 ghost use Rattle.mm_script.specs.Lines.{is_line_end, lines, is_skipped as is_skipped_line};
 ghost use Rattle.mm_script.specs.Reading.{Gives, Reads, judged, script_at};
-ghost use Rattle.mm_script.specs.Script.{most_bytes};
+ghost use Rattle.mm_script.specs.Script.{most_bytes, IsScript, IsFirstRefused, IfLine};
 
 use crate::fault::{LineWhat, ScriptFault};
 use crate::lines::action_of;
@@ -171,8 +172,14 @@ impl Script {
         stamp: u32,
         steps: bool,
     ) -> Result<Script, ScriptFault>
-        // What is read, and which line is refused for what.
-        ensures exact { Reads (λ script. script) result (script_at (setting names.now stamp steps) (length bytes.now) 0 1 (lines bytes.now)) }
+        // What is read is what the lines stand for.
+        ensures read { IfOk result (λ script. IsScript (setting names.now stamp steps) bytes.now script) }
+        // No script with these bytes asks for anything else.
+        ensures only { IfOk result (λ script. (asked : List Action) → IsScript (setting names.now stamp steps) bytes.now asked → asked ≡ script) }
+        // A refusal names the first line that is refused, and why.
+        ensures refused { IfLine result (λ number what. IsFirstRefused (setting names.now stamp steps) bytes.now number what) }
+        // And then the bytes are no script.
+        ensures none { IfLine result (λ number what. (asked : List Action) → IsScript (setting names.now stamp steps) bytes.now asked → ⊥) }
     {
         match actions_of(alloc, bytes, names, stamp, steps) {
             Ok(actions) => Ok(Script { actions }),
