@@ -1,5 +1,6 @@
 -- The log, cut into groups.
-use Rattle.std.proofs.Common.{◌≡◌, ℕ, ◌+◌, ◌-◌, ◌≤◌, zero, suc, List, [], ◌∷◌, ◌++◌, length, take, drop, refl, ◌∙◌, ap, arith}
+use Rattle.std.proofs.Common.{◌≡◌, ℕ, ◌+◌, ◌-◌, ◌≤◌, zero, suc, List, [], ◌∷◌, ◌++◌, length, map, take, drop, refl, ◌∙◌, ap, arith}
+use Rattle.std.proofs.lemmas.List.{length-take-le}
 use Rattle.mm_model.specs.declared.action.Entry.{Entry}
 use Rattle.mm_held.specs.Log.{sum, closed_groups, open_group, joined}
 
@@ -7,17 +8,17 @@ pub sum_push : (counts : List ℕ) (n : ℕ) → sum (counts ++ n ∷ []) ≡ su
 sum_push [] n = omega arith
 sum_push (m ∷ counts) n = let rest = sum_push counts n in omega (arith, rest)
 
-pub drop_push : (n : ℕ) (log : List Entry) (e : Entry) → n ≤ length log → drop n (log ++ e ∷ []) ≡ drop n log ++ e ∷ []
+pub drop_push : {X : Type 0} → (n : ℕ) (log : List X) (e : X) → n ≤ length log → drop n (log ++ e ∷ []) ≡ drop n log ++ e ∷ []
 drop_push zero log e within = refl
 drop_push (suc n) [] e within = absurd (omega (arith, within))
 drop_push (suc n) (x ∷ log) e within = drop_push n log e (omega (arith, within))
 
-pub take_push : (n : ℕ) (log : List Entry) (e : Entry) → n ≤ length log → take n (log ++ e ∷ []) ≡ take n log
+pub take_push : {X : Type 0} → (n : ℕ) (log : List X) (e : X) → n ≤ length log → take n (log ++ e ∷ []) ≡ take n log
 take_push zero log e within = refl
 take_push (suc n) [] e within = absurd (omega (arith, within))
 take_push (suc n) (x ∷ log) e within = ap (λ xs. x ∷ xs) (take_push n log e (omega (arith, within)))
 
-left_over : (n : ℕ) (log : List Entry) → length (drop n log) ≡ length log - n
+pub left_over : (n : ℕ) (log : List Entry) → length (drop n log) ≡ length log - n
 left_over zero log = omega arith
 left_over (suc n) [] = omega arith
 left_over (suc n) (x ∷ log) = left_over n log ∙ omega arith
@@ -75,3 +76,10 @@ close_open (n ∷ counts) log = close_open counts (drop n log)
 pub count_groups : (counts : List ℕ) (log : List Entry) → length (closed_groups counts log) ≡ length counts
 count_groups [] log = refl
 count_groups (n ∷ counts) log = ap suc (count_groups counts (drop n log))
+
+-- each closed group has as many entries as it was counted
+pub counted_groups : (counts : List ℕ) (log : List Entry) → sum counts ≤ length log → map length (closed_groups counts log) ≡ counts
+counted_groups [] log within = refl
+counted_groups (n ∷ counts) log within =
+    ap (λ k. k ∷ map length (closed_groups counts (drop n log))) (length-take-le n log (omega (arith, within)))
+    ∙ ap (λ ks. n ∷ ks) (counted_groups counts (drop n log) (let left = left_over n log in omega (arith, left, within)))

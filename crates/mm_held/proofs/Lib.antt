@@ -1,7 +1,9 @@
-pub mod Replies
 pub mod Attempts
-pub mod Items
-pub mod Imaging
-pub mod Groups
-pub mod Marks
+pub mod Closing
 pub mod Folds
+pub mod Groups
+pub mod Imaging
+pub mod Items
+pub mod Marks
+pub mod Replies
+pub mod Sound

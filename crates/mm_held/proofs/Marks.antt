@@ -1,9 +1,9 @@
 -- Marks, when an entry comes and when a group is closed.
-use Rattle.std.proofs.Common.{◌≡◌, ◌≢◌, ℕ, ◌+◌, ◌<◌, ◌==◌, true, false, cond, List, [], ◌∷◌, ◌++◌, length, get_or, slice_set, slice_get, Some, map, refl, sym, ◌∙◌, ap, subst, arith, rules, inl, inr}
+use Rattle.std.proofs.Common.{◌≡◌, ◌≢◌, ℕ, ◌+◌, ◌≤◌, ◌<◌, ◌==◌, zero, suc, true, false, cond, List, [], ◌∷◌, ◌++◌, length, get_or, slice_set, slice_get, Some, map, refl, sym, ◌∙◌, ap, subst, arith, rules, inl, inr}
 use Rattle.std.proofs.lemmas.Bool.Decides.{nat_tests, eqb_tells}
 use Rattle.std.proofs.lemmas.List.{length_push, length-append, length-map, get_or-set_same, get_or-set_other}
 use Rattle.std.proofs.lemmas.List.Elements.{filter-append}
-use Rattle.std.proofs.lemmas.Option.{slice_get_within}
+use Rattle.std.proofs.lemmas.Option.{slice_get_within, get_or_from_slice_get}
 use Rattle.std.proofs.Math.Seq.{map-set_same}
 use Rattle.mm_model.specs.declared.action.Entry.{Entry}
 use Rattle.mm_tie.specs.Ends.{Ring, given, giver_ring, giver_room}
@@ -94,6 +94,24 @@ given_more givers marks s g g' m all lies at is more room above free k d within 
           subst (λ h. IsGiven h (marks_of (k + 1) (marks ++ m ∷ []))) there (subst (IsGiven (get_or givers k d)) same before))
     ]
 
+-- what a session was given
+pub sits : (givers : List (Giver Mark)) (marks : List Mark) (s : ℕ) (g : Giver Mark) → AllGiven givers marks → s < length givers → g ≡ get_or givers s g → IsGiven g (marks_of (s + 1) marks)
+sits givers marks s g all lies at = subst (λ h. IsGiven h (marks_of (s + 1) marks)) (sym at) (all s g lies)
+
+-- an end that gave the same
+pub given_same : (givers : List (Giver Mark)) (marks : List Mark) (s : ℕ) (g g' : Giver Mark)
+    → AllGiven givers marks → s < length givers → g ≡ get_or givers s g → given g' ≡ given g → giver_room g' ≡ giver_room g → AllGiven (slice_set givers s g') marks
+given_same givers marks s g g' all lies at is room k d within =
+    let len : length (slice_set givers s g') ≡ length givers = search rules in
+    elim (eqb_tells k s) [
+      | inl p ↦
+          (let here : g' ≡ get_or (slice_set givers s g') k d = sym (ap (λ i. get_or (slice_set givers s g') i d) p.1 ∙ get_or-set_same givers s g' d lies) in
+          let old = subst (λ i. IsGiven g (marks_of (i + 1) marks)) (sym p.1) (sits givers marks s g all lies at) in
+          let now : IsGiven g' (marks_of (k + 1) marks) = record { marks = is ∙ old.marks; rise = old.rise; few = subst (λ n. length (marks_of (k + 1) marks) ≤ n) (sym room) old.few } in
+          subst (λ h. IsGiven h (marks_of (k + 1) marks)) here now)
+      | inr p ↦ subst (λ h. IsGiven h (marks_of (k + 1) marks)) (sym (get_or-set_other givers s k g' d p.1)) (all k d (omega (arith, len, within)))
+    ]
+
 -- an end that shows the same ring and room
 pub same_rings : (givers : List (Giver Mark)) (s : ℕ) (g g' : Giver Mark) → g ≡ get_or givers s g → giver_ring g' ≡ giver_ring g → map giver_ring (slice_set givers s g') ≡ map giver_ring givers
 same_rings givers s g g' at ring = map-set_same giver_ring givers s g' g (ring ∙ ap giver_ring at)
@@ -103,3 +121,15 @@ same_rooms givers s g g' at room = map-set_same giver_room givers s g' g (room �
 
 pub seat_within : (givers : List (Giver Mark)) (s : ℕ) (r : Ring) → slice_get (map giver_ring givers) s ≡ Some r → s < length givers
 seat_within givers s r found = omega (arith, slice_get_within (map giver_ring givers) s r found, length-map givers giver_ring)
+
+pub same_length : (givers : List (Giver Mark)) (s : ℕ) (g' : Giver Mark) → length (slice_set givers s g') ≡ length givers
+same_length givers s g' = search rules
+
+-- what an end shows is what the list of the shown has at its place
+pub shown_at : {A : Type 0} (f : Giver Mark → A) (givers : List (Giver Mark)) (s : ℕ) (g : Giver Mark) (x : A) → slice_get (map f givers) s ≡ Some x → g ≡ get_or givers s g → f g ≡ x
+shown_at f givers s g x found at = ap f at ∙ (sym (of_map givers s) ∙ get_or_from_slice_get (map f givers) s x (f g) found)
+  where
+    of_map : (gs : List (Giver Mark)) (i : ℕ) → get_or (map f gs) i (f g) ≡ f (get_or gs i g)
+    of_map [] i = refl
+    of_map (h ∷ gs) zero = refl
+    of_map (h ∷ gs) (suc i) = of_map gs i

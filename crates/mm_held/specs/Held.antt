@@ -13,7 +13,7 @@ use Rattle.mm_held.specs.declared.pass.Mark.{Mark}
 use Rattle.mm_held.specs.Meaning.{Meaning, Stored}
 use Rattle.mm_held.specs.History.{fold, AreReplies}
 use Rattle.mm_held.specs.Images.{Imaged, opening, item}
-use Rattle.mm_held.specs.Log.{joined, closed_groups, open_group, marks_in}
+use Rattle.mm_held.specs.Log.{joined, closed_groups, open_group, marks_in, sum, AllGiven}
 
 -- The engine and the probe; the images and the items that were given; the log in its closed groups and the opened one; and of each session's
 -- end its ring and its room.
@@ -130,3 +130,15 @@ held_view engine probe images counts log givers = record {
   rings = map giver_ring givers;
   rooms = map giver_room givers;
 }
+
+-- What is true of the fields at all times: the fact of the database; that its sessions were given the marks of the log; how many entries are
+-- closed; that there is an item for each closed group and one more, and space to count each group that may be closed; and that a session's number
+-- fits its field.
+pub record IsSound {E P : Type 0} (m : Meaning) (t : Telling P) (engine : E) (probe : Option P) (images : Imaged) (counts : List ℕ) (log : List Entry) (givers : List (Giver Mark)) (closed capacity : ℕ) : Type 0 where
+  pub held : IsHeld m t (held_view engine probe images counts log givers)
+  pub given : AllGiven givers (all_marks (held_view engine probe images counts log givers))
+  pub closed_are : closed ≡ sum counts
+  pub within : closed ≤ length log
+  pub items : length images.given ≡ length counts + 1
+  pub space : images.most ≤ capacity + 1
+  pub sessions : length givers < 4294967296

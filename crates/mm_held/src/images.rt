@@ -102,6 +102,7 @@ impl Images {
     pub fn agree(&mut self, feed: &mut Feed)
         requires { taker_ring feed.old ≡ self.old.ring }
         ensures agree { self.old.given ≡ taken feed.old }
+        ensures shared { self.old.views.shared ≡ image_of (up_to self.old.applied self.old.given) }
         ensures same { self.new ≡ self.old }
         ensures taken { taken feed.new ≡ taken feed.old }
         ensures ring { (taker_ring feed.new ≡ taker_ring feed.old) × (taker_room feed.new ≡ taker_room feed.old) }

@@ -1,13 +1,26 @@
-//! One database, held.
+//! One database, held: its views, its log, what each session was told of it, and what was given for each closed group.
+//!
+//! - It is proved for any `Engine`: what commands do to a database, and which image stands for it, are the engine's relations.
+//! - `Held::step` carries one command out: one entry in the log, one mark for its session, one note for the probe, or none of them, where the
+//!   group is full or memory is wanting; then all is as it was. A refused command changes no view.
+//! - `close`, which is `Origin`'s, gives the item of the opened group; `apply` lays closed parts over the shared image; both take no memory.
+//! - At all times the private image stands for the fold of the log, each reply is that to its command or a limit's with its cause, the items up
+//!   to a closed group give an image that stands for the fold of that group and those before it, and each session was given just the marks of
+//!   its entries (`IsHeld` and `AllGiven` in specs/). `log` and `agree_pass` tell it.
+//!
+//! Not promised: when a group is closed or applied, and that anything reaches a disk.
 #![tactic(auto)]
 
 mod attempt;
 mod engine;
+mod entered;
 mod fault;
+mod held;
 mod images;
 mod pass;
 
 pub use attempt::{MAX_GROUP_WEIGHT, MAX_STEP_WEIGHT};
 pub use engine::Engine;
 pub use fault::Refused;
+pub use held::{Done, Ended, Held};
 pub use pass::{Mark, Pass};
