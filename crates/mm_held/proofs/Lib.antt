@@ -7,3 +7,4 @@ pub mod Items
 pub mod Marks
 pub mod Replies
 pub mod Sound
+pub mod Starting

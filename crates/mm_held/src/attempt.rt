@@ -1,9 +1,9 @@
 //! One command, tried in a draft.
 
-ghost use Rattle.std.specs.Prelude.{◌≡◌, ℕ, ◌+◌, ◌≤◌, IfOk, IfErr, OnErr, IfSome, IsTrue};
+ghost use Rattle.std.specs.Prelude.{◌≡◌, ◌+◌, ◌≤◌, IfOk, IfErr, OnErr};
 ghost use Rattle.mm_views.specs.State.{IsCovered, drafting_of, weight_in};
 ghost use Rattle.mm_model.specs.Laws.{is_ok};
-ghost use Rattle.mm_held.specs.Meaning.{Meaning, Stored};
+ghost use Rattle.mm_held.specs.Meaning.{Stored};
 ghost use Rattle.mm_held.specs.Steps.{IsStep, IsCause};
 ghost use Rattle.mm_held.specs.Fates.{IsFate, IsReadyFor, IsTwice, IsWeighed, IsTooMuch, AreSame};
 

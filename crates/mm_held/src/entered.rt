@@ -4,7 +4,7 @@ ghost use Rattle.std.specs.Prelude.{◌≡◌, ℕ, ◌+◌, ◌<◌, ◌++◌, 
 ghost use Rattle.mm_tie.specs.Ends.{taken, taker_ring, taker_room, giver_ring, giver_room};
 ghost use Rattle.mm_held.specs.declared.pass.Mark.{Mark as Told};
 ghost use Rattle.mm_held.specs.Log.{IsAboveLast, AllGiven, mark};
-ghost use Rattle.mm_held.specs.Held.{IsToldMore, Telling};
+ghost use Rattle.mm_held.specs.Held.{IsToldMore};
 
 use crate::pass::{Mark, Pass};
 use mm_model::Entry;

@@ -1,13 +1,13 @@
 //! The held database.
 
-ghost use Rattle.std.specs.Prelude.{◌≡◌, ℕ, ◌+◌, ◌<◌, ◌++◌, ◌∷◌, [], length, map, true, IfOk, IfErr, OnOk, OnErr};
+ghost use Rattle.std.specs.Prelude.{◌≡◌, ◌+◌, ◌<◌, ◌++◌, ◌∷◌, [], length, map, true, IfOk, IfErr, OnOk, OnErr};
 ghost use Rattle.mm_views.specs.State.{weight_in};
 ghost use Rattle.mm_tie.specs.Ends.{taken, taker_ring, taker_room};
-ghost use Rattle.mm_held.specs.Meaning.{Meaning, Stored};
+ghost use Rattle.mm_held.specs.Meaning.{Stored};
 ghost use Rattle.mm_held.specs.Steps.{IsStep, IsCause};
 ghost use Rattle.mm_held.specs.Images.{IsApplied, last_up_to};
 ghost use Rattle.mm_held.specs.Log.{IsAboveLast, LinesRise, mark, marks_of};
-ghost use Rattle.mm_held.specs.Held.{IsHeld, IsSeated, HasRoom, IsEntered, Closes, Telling, entry, section_of, all_marks, log_of};
+ghost use Rattle.mm_held.specs.Held.{IsHeld, IsSeated, HasRoom, IsEntered, Closes, entry, section_of, all_marks, log_of};
 
 use crate::engine::Engine;
 use crate::entered::enter;

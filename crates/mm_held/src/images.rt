@@ -1,10 +1,10 @@
 //! The images of a database, and the items that were given for its closed groups.
 
-ghost use Rattle.std.specs.Prelude.{◌≡◌, ℕ, ◌+◌, ◌<◌, ◌≤◌, ◌^◌, ◌++◌, ◌∷◌, [], length, true, IsTrue, IfOk, IfErr, OnOk, OnErr};
-ghost use Rattle.mm_views.specs.State.{IsCovered, closed_from, part_of, weight_in};
+ghost use Rattle.std.specs.Prelude.{◌≡◌, ◌+◌, ◌<◌, ◌^◌, ◌++◌, ◌∷◌, [], length, true, IsTrue, IfOk, IfErr, OnOk, OnErr};
+ghost use Rattle.mm_views.specs.State.{closed_from, part_of, weight_in};
 ghost use Rattle.mm_tie.specs.Ends.{taken, taker_ring, taker_room};
 ghost use Rattle.mm_tie.specs.Items.{image_of, up_to, Follows};
-ghost use Rattle.mm_held.specs.Meaning.{Meaning, Stored};
+ghost use Rattle.mm_held.specs.Meaning.{Stored};
 ghost use Rattle.mm_held.specs.Steps.{IsStep, IsCause};
 ghost use Rattle.mm_held.specs.Images.{IsImaged, SameItems, IsApplied, item, last_up_to};
 
@@ -34,7 +34,7 @@ pub struct Images {
 
 impl Model for Images {
     ghost use Rattle.std.specs.Prelude.{◌≡◌, ◌+◌, ◌<◌, ◌^◌, length};
-    ghost use Rattle.mm_tie.specs.Ends.{given, giver_ring, giver_room};
+    ghost use Rattle.mm_tie.specs.Ends.{given, giver_room};
     ghost use Rattle.mm_held.specs.Images.{Imaged, imaged, IsImaged};
     ghost use Rattle.mm_held.specs.Codes.{imaged_code};
 
