@@ -5,7 +5,7 @@ ghost use Rattle.std.specs.FinMap.{get, insert};
 ghost use Rattle.mm_bytes.specs.Files.{read_from};
 ghost use Rattle.mm_ranges.specs.Limits.{is_file, most_of, IsAllowed};
 ghost use Rattle.mm_ranges.specs.Overlay.{bytes_at, laid, over_all, ranges_of};
-ghost use Rattle.mm_views.specs.State.{no_views, part_of, closed_from, applied, IsRemapped, IsCovered, PartFits, FileAllowed, weight_in};
+ghost use Rattle.mm_views.specs.State.{no_views, part_of, closed_from, applied, IsRemapped, IsCovered, KeepsLimits, PartFits, FileAllowed, weight_in};
 
 use crate::image::Plain;
 use crate::parts::{Kept, Prepared, part, zeros};
@@ -218,6 +218,7 @@ impl Views {
     pub fn remap(&mut self)
         ensures remapped { IsRemapped self.old self.new }
         ensures coverage { IsCovered self.new }
+        ensures limits { KeepsLimits self.new.private }
     {
         // Whole images share no memory.
         let _ = &self.private;
