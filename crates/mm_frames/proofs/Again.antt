@@ -10,6 +10,10 @@ use Rattle.mm_frames.specs.ExtentHeader.{extent_header_of, extent_header_table}
 use Rattle.mm_frames.specs.declared.extent_header.ExtentHeader.{ExtentHeader}
 use Rattle.mm_frames.specs.DeletedHeader.{deleted_header_of, deleted_header_table}
 use Rattle.mm_frames.specs.declared.deleted_header.DeletedHeader.{DeletedHeader}
+use Rattle.mm_frames.specs.BucketHeader.{bucket_header_of, bucket_header_table}
+use Rattle.mm_frames.specs.declared.bucket_header.BucketHeader.{BucketHeader}
+use Rattle.mm_frames.specs.KeyNode.{key_node_of, key_node_table}
+use Rattle.mm_frames.specs.declared.key_node.KeyNode.{KeyNode}
 use Rattle.mm_frames.specs.NodeHead.{node_head_of, node_head_table}
 use Rattle.mm_frames.specs.declared.node_head.NodeHead.{NodeHead}
 use Rattle.mm_frames.specs.IndexPair.{index_pair_of, index_pair_bytes, index_pair_table}
@@ -28,6 +32,14 @@ extent_header_is x bytes has = grind arith
 pub deleted_header_is : (x : DeletedHeader) (bytes : List ℕ) → HasAll bytes (deleted_header_table x) → deleted_header_of bytes ≡ x
 unfolding deleted_header_of
 deleted_header_is x bytes has = grind arith
+
+pub bucket_header_is : (x : BucketHeader) (bytes : List ℕ) → HasAll bytes (bucket_header_table x) → bucket_header_of bytes ≡ x
+unfolding bucket_header_of
+bucket_header_is x bytes has = grind arith
+
+pub key_node_is : (x : KeyNode) (bytes : List ℕ) → HasAll bytes (key_node_table x) → key_node_of bytes ≡ x
+unfolding key_node_of
+key_node_is x bytes has = grind arith
 
 pub node_head_is : (x : NodeHead) (bytes : List ℕ) → HasAll bytes (node_head_table x) → node_head_of bytes ≡ x
 unfolding node_head_of

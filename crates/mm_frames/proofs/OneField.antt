@@ -15,6 +15,7 @@ use Rattle.mm_base.proofs.Sets.{one_field}
 use Rattle.mm_frames.specs.RecHeader.{rec_header_of}
 use Rattle.mm_frames.specs.DeletedHeader.{deleted_header_of}
 use Rattle.mm_frames.specs.ExtentHeader.{extent_header_of}
+use Rattle.mm_frames.specs.BucketHeader.{bucket_header_of}
 use Rattle.mm_frames.specs.Details.{details_of}
 use Rattle.mm_frames.specs.declared.details.Details.{Details}
 
@@ -45,6 +46,10 @@ first_record_changed p frame len = grind (arith, one_field)
 pub last_record_changed : (p : DiskLoc) (frame : List ℕ) → length frame ≡ 176 → extent_header_of (overwritten 168 (place_bytes p) frame) ≡ record (extent_header_of frame) { last_record = p }
 unfolding extent_header_of
 last_record_changed p frame len = grind (arith, one_field)
+
+pub parent_changed : (p : DiskLoc) (frame : List ℕ) → length frame ≡ 40 → bucket_header_of (overwritten 0 (place_bytes p) frame) ≡ record (bucket_header_of frame) { parent = p }
+unfolding bucket_header_of
+parent_changed p frame len = grind (arith, one_field)
 
 pub list_head_changed : (p : DiskLoc) (i : ℕ) (frame : List ℕ) → i < 19 → length frame ≡ 496 → details_of (overwritten (16 + 8 * i) (place_bytes p) frame) ≡ record (details_of frame) { deleted = slice_set (details_of frame).deleted i p }
 unfolding details_of

@@ -3,6 +3,8 @@ pub mod FileHeader
 pub mod ExtentHeader
 pub mod RecHeader
 pub mod DeletedHeader
+pub mod BucketHeader
+pub mod KeyNode
 pub mod NodeHead
 pub mod IndexPair
 pub mod Details

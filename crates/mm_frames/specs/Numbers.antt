@@ -12,6 +12,10 @@ data_file_version_minor = 5
 abbrev pub extent_magic : ℕ
 extent_magic = 0x41424344
 
+-- the flags of a bucket
+abbrev pub bucket_flags : ℤ
+bucket_flags = pos 1
+
 -- the link of a record at an end of its extent's chain: -1
 abbrev pub chain_end : ℤ
 chain_end = negsuc 0
