@@ -14,3 +14,4 @@ pub mod Sizes
 pub mod Measures
 pub mod Deep
 pub mod Commons
+pub mod Frames

@@ -1,0 +1,26 @@
+use Rattle.std.proofs.Common.{◌≡◌, ◌++◌, ◌+◌, ◌*◌, ◌≤◌, ◌<◌, ◌^◌, length}
+use Rattle.mm_bson.specs.Tree.{depth, tree_depth}
+use Rattle.mm_bson.specs.Spelling.{elements_spelling, AreElements}
+use Rattle.mm_update.specs.Drafted.{drafted, node_tree, AreNames}
+use Rattle.mm_update.proofs.write.+put.Given as goal
+
+abbrev pub decreases-put_draft : goal.decreases-put_draft
+decreases-put_draft l = 3 * depth l.draft.now + 2
+
+abbrev pub decreases-put_entries : goal.decreases-put_entries
+decreases-put_entries l = 3 * depth (drafted l.entries.now) + 1
+
+abbrev pub decreases-put_node : goal.decreases-put_node
+decreases-put_node l = 3 * tree_depth (node_tree l.node.now)
+
+abbrev pub invariant-put_entries-entries : goal.invariant-put_entries-entries
+invariant-put_entries-entries l = record {
+  items : l.out.items ++ elements_spelling (drafted l.rest) ≡ l.fn.out.items ++ elements_spelling (drafted l.entries);
+  sound : AreElements (drafted l.rest) → AreElements (drafted l.entries);
+  names : AreNames (drafted l.rest);
+  short : length (elements_spelling (drafted l.rest)) < 2 ^ 31;
+  shallow : depth (drafted l.rest) ≤ depth (drafted l.entries);
+}
+
+abbrev pub decreases-put_entries-entries : goal.decreases-put_entries-entries
+decreases-put_entries-entries l = length l.rest
