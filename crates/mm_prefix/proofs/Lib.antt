@@ -1,0 +1,4 @@
+pub mod Keeping
+pub mod Logging
+pub mod Removing
+pub mod Laws
