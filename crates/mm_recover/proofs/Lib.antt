@@ -3,3 +3,4 @@ pub mod LayAsks
 pub mod DiskNames
 pub mod EachAsk
 pub mod Headers
+pub mod NewerAsks

@@ -1,8 +1,9 @@
 -- What sections lay over the database's files.
-use Rattle.std.specs.Prelude.{ℕ, IsTrue, List, [], ◌∷◌, map}
+use Rattle.std.specs.Prelude.{ℕ, nat_lt, if◌then◌else◌, IsTrue, List, [], ◌∷◌, map}
 use Rattle.mm_ranges.specs.declared.part.Made.{Made}
 use Rattle.mm_ranges.specs.declared.part.Piece.{Piece}
 use Rattle.mm_ranges.specs.declared.part.Part.{Part}
+use Rattle.mm_section.specs.declared.section.Section.{Section}
 use Rattle.mm_section.specs.Spells.{is_db_name}
 use Rattle.mm_crash.specs.Overlay.{Entry, Makes, Puts}
 use Rattle.mm_crash.specs.Journal.{entries_of_part, entries_of_parts}
@@ -25,6 +26,10 @@ part_entries part = entries_of_part disk_name part
 
 abbrev pub parts_entries : List Part → List Entry
 parts_entries parts = entries_of_parts disk_name parts
+
+-- those of a section above this number
+abbrev pub newer_entries : ℕ → Section → List Entry
+newer_entries lsn section = if nat_lt lsn section.number then parts_entries section.parts else []
 
 -- each part has a database's name
 abbrev pub AreNamed : List Part → Type 0

@@ -8,11 +8,14 @@ ghost use Rattle.mm_section.specs.Spells.{is_db_name};
 ghost use Rattle.mm_crash.specs.Overlay as overlay;
 ghost use Rattle.mm_crash.specs.Asks.{act_asks, lay_asks};
 ghost use Rattle.mm_journal.specs.Real.{disk_name};
-ghost use Rattle.mm_recover.specs.Laying.{made_entries, piece_entries, part_entries, parts_entries, AreNamed};
+ghost use Rattle.mm_crash.specs.Journal.{AllCan, above, entries_of};
+ghost use Rattle.mm_journal.proofs.Real.{the_format, the_names};
+ghost use Rattle.mm_recover.specs.Laying.{made_entries, piece_entries, part_entries, parts_entries, newer_entries, AreNamed};
 
 use crate::names::disk_name;
 use mm_outside::{Device, Disk};
 use mm_ranges::{Made, Part, Piece};
+use mm_section::Section;
 use std::alloc::Global;
 
 // A file is made of so many zeros. One that is there is emptied first.
@@ -115,6 +118,42 @@ pub fn lay_parts<D: Disk>(alloc: Global, disk: &mut D, parts: &[Part]) -> Result
 {
     for part in parts {
         lay_part(alloc, disk, part)?;
+    }
+    Ok(())
+}
+
+// The parts of a section, if it is above the lsn.
+fn lay_section<D: Disk>(
+    alloc: Global,
+    disk: &mut D,
+    section: &Section,
+    lsn: u64,
+) -> Result<(), Device>
+    requires { AreNamed section.now.parts }
+    ensures made { OnOk result (Makes (lay_asks (newer_entries lsn section.now)) (D.told disk.old) (D.told disk.new)) }
+    ensures cut { MakesSome (lay_asks (newer_entries lsn section.now)) (D.told disk.old) (D.told disk.new) }
+    ensures cause { HasCause Fault (D.faults disk.old) (D.faults disk.new) result }
+{
+    if section.number <= lsn {
+        return Ok(());
+    }
+    lay_parts(alloc, disk, section.parts.as_slice())
+}
+
+/// Lays the sections above the lsn over the files, in order.
+pub fn lay_newer<D: Disk>(
+    alloc: Global,
+    disk: &mut D,
+    sections: &[Section],
+    lsn: u64,
+) -> Result<(), Device>
+    requires { AllCan the_format sections.now }
+    ensures made { OnOk result (Makes (lay_asks (entries_of the_names.disk_name (above lsn sections.now))) (D.told disk.old) (D.told disk.new)) }
+    ensures cut { MakesSome (lay_asks (entries_of the_names.disk_name (above lsn sections.now))) (D.told disk.old) (D.told disk.new) }
+    ensures cause { HasCause Fault (D.faults disk.old) (D.faults disk.new) result }
+{
+    for section in sections {
+        lay_section(alloc, disk, section, lsn)?;
     }
     Ok(())
 }
