@@ -67,3 +67,8 @@ gap_behind lsn n last bytes behind old ours is (JournalGap expected found) h =
 pub err_weaker : {T E : Type 0} (r : Result T E) (P Q : E → Type 0) → ((e : E) → P e → Q e) → IfErr r P → IfErr r Q
 err_weaker (Ok x) P Q f h = tt
 err_weaker (Err e) P Q f h = f e h
+
+-- two facts of a value give a third
+pub ok_two : {T E : Type 0} (r : Result T E) (P Q R : T → Type 0) → ((x : T) → P x → Q x → R x) → IfOk r P → IfOk r Q → IfOk r R
+ok_two (Ok x) P Q R f h k = f x h k
+ok_two (Err e) P Q R f h k = tt

@@ -21,7 +21,7 @@ module _ {X : Type 0} (f : X → List Entry) where
   all_entries [] = []
   all_entries (x ∷ xs) = f x ++ all_entries xs
 
-  all-append : (xs ys : List X) → all_entries (xs ++ ys) ≡ all_entries xs ++ all_entries ys
+  pub all-append : (xs ys : List X) → all_entries (xs ++ ys) ≡ all_entries xs ++ all_entries ys
   all-append [] ys = refl
   all-append (x ∷ xs) ys = ap (λ (l : List Entry). f x ++ l) (all-append xs ys) ∙ sym (append_assoc (f x) (all_entries xs) (all_entries ys))
 
@@ -45,7 +45,7 @@ module _ {X : Type 0} (f : X → List Entry) where
     laid_cut old mid new first one = subst (λ (l : List Ask). MakesSome l old new) (sym rest_asks)
         (some_then (lay_asks (all_entries (take i xs))) _ old mid new first (some_first (lay_asks (f x)) (lay_asks (all_entries (drop (i + 1) xs))) mid new one))
 
-  same_at : (xs : List X) (i : ℕ) (d e : X) → i < length xs → get_or xs i d ≡ get_or xs i e
+  pub same_at : (xs : List X) (i : ℕ) (d e : X) → i < length xs → get_or xs i d ≡ get_or xs i e
   same_at [] i d e lt = absurd (omega arith)
   same_at (x ∷ xs) zero d e lt = refl
   same_at (x ∷ xs) (suc i) d e lt = same_at xs i d e (omega (arith, lt))

@@ -4,3 +4,6 @@ pub mod DiskNames
 pub mod EachAsk
 pub mod Headers
 pub mod NewerAsks
+pub mod Fronts
+pub mod FileNumbers
+pub mod TouchedNames

@@ -2,3 +2,4 @@ pub mod Faults
 pub mod Reading
 pub mod Laying
 pub mod Closing
+pub mod Touched

@@ -1,9 +1,15 @@
 -- What is read of a journal, and the first fault there.
-use Rattle.std.specs.Prelude.{◌≡◌, ◌≢◌, ℕ, Bool, ◌+◌, ◌-◌, ◌<◌, ◌≤◌, ◌^◌, true, false, List, [], ◌∷◌, ◌++◌, length, map, Option, None, Some, ◌⊎◌, IsSome}
+use Rattle.std.specs.Prelude.{◌≡◌, ◌≢◌, ℕ, Bool, ◌&&◌, nat_lt, ◌+◌, ◌-◌, ◌<◌, ◌≤◌, ◌^◌, true, false, List, [], ◌∷◌, ◌++◌, length, map, Option, None, Some, ◌⊎◌, IsSome}
+use Rattle.std.specs.List.{list_any}
+use Rattle.std.specs.Ordering.{eq_by_cmp}
+use Rattle.mm_outside.specs.Image.{name_cmp}
+use Rattle.mm_outside.specs.Told.{Told, image_of}
+use Rattle.mm_jfiles.specs.Names.{journal_name}
+use Rattle.mm_crash.specs.Recovered.{journal_of}
 use Rattle.mm_section.specs.declared.section.Section.{Section}
 use Rattle.mm_crash.specs.Journal.{spelled, AllCan, HasSections, IsOurs, HasFile, HasRuns, Run, joined}
 use Rattle.mm_journal.specs.Tracks.{last_of}
-use Rattle.mm_journal.proofs.Real.{the_format}
+use Rattle.mm_journal.proofs.Real.{the_format, the_names}
 use Rattle.mm_recover.specs.declared.fault.Recover.{Recover}
 use Rattle.mm_recover.specs.declared.fault.Recover.TheVariants.{DiskFault, NoMemory, BadHeader, JournalGap, BadLength}
 
@@ -110,8 +116,41 @@ abbrev pub AreNumbers : (ℕ → Option (List ℕ)) → ℕ → List ℕ → Typ
 AreNumbers left n [] = (m : ℕ) → n ≤ m → left m ≡ None
 AreNumbers left n (k ∷ numbers) = (n ≤ k) × (((m : ℕ) → n ≤ m → m < k → left m ≡ None) × (IsSome (left k) × AreNumbers left (k + 1) numbers))
 
+-- this is the name of the journal's file of this number
+abbrev pub is_number_of : List ℕ → ℕ → Bool
+is_number_of name n = nat_lt n (2 ^ 32) && eq_by_cmp name_cmp (journal_name n) name
+
+-- one of the names is that of the journal's file of this number
+abbrev pub has_number : List (List ℕ) → ℕ → Bool
+has_number names n = list_any (λ name. is_number_of name n) names
+
+-- the journal's files as they read, by number
+abbrev pub journal_in : Told → ℕ → Option (List ℕ)
+journal_in t = journal_of the_names (image_of t)
+
+-- where the file of this number is there, its sections come after those of earlier ones
+abbrev pub TakesFrom : Option ℕ → (ℕ → Option (List ℕ)) → ℕ → Bool → List Section → List Section → Type 0
+TakesFrom lsn left n is_last old all = (bytes : List ℕ) → left n ≡ Some bytes → TakesFile lsn n is_last bytes old all
+
+-- the error is a failure of the disk, or where the file of this number is there, its own
+abbrev pub HasFaultFrom : Option ℕ → (ℕ → Option (List ℕ)) → ℕ → Bool → List Section → Recover → Type 0
+HasFaultFrom lsn left n is_last old e = (e ≡ DiskFault) ⊎ ((bytes : List ℕ) → left n ≡ Some bytes → HasFileFault lsn n is_last bytes old e)
+
+-- each of the files has its header and its sections
+abbrev pub AllRuns : (ℕ → Option (List ℕ)) → List Run → Type 0
+AllRuns left [] = Unit {0}
+AllRuns left (run ∷ runs) = HasFile the_format run.0 false (left run.0) run.1 × AllRuns left runs
+
 abbrev pub numbers_of : List Run → List ℕ
 numbers_of runs = map (λ (run : Run). run.0) runs
+
+-- the files of these numbers are good, and these are their sections
+pub record HasFront (lsn : Option ℕ) (left : ℕ → Option (List ℕ)) (numbers : List ℕ) (sections : List Section) : Type 0 where
+  pub runs : List Run
+  pub has : AllRuns left runs
+  pub numbers_are : numbers_of runs ≡ numbers
+  pub all : joined runs ≡ sections
+  pub gapless : IsGapless lsn sections
 
 -- the journal is good, and these are its files and its sections
 pub record ReadsAs (lsn : Option ℕ) (left : ℕ → Option (List ℕ)) (numbers : List ℕ) (sections : List Section) : Type 0 where

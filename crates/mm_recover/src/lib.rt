@@ -3,9 +3,12 @@
 
 mod closing;
 mod fault;
+mod files;
 mod journal;
 mod laying;
 mod names;
+mod numbers;
 mod sections;
+mod touched;
 
 pub use fault::Recover;
