@@ -15,3 +15,5 @@ pub mod ReuseSteps
 pub mod Grown
 pub mod HeaderWrites
 pub mod CutSteps
+pub mod MadeFiles
+pub mod NewExtents

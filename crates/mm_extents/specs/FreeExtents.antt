@@ -9,10 +9,11 @@ use Rattle.mm_frames.specs.ExtentHeader.{extent_header_of}
 use Rattle.mm_frames.specs.declared.extent_header.ExtentHeader.{ExtentHeader}
 use Rattle.mm_frames.specs.declared.deleted_header.DeletedHeader.{DeletedHeader}
 use Rattle.mm_frames.specs.declared.free_ends.FreeEnds.{FreeEnds}
-use Rattle.mm_links.specs.Links.{Place, same, has, once, first_of, last_of, next_in, IsLinked}
+use Rattle.mm_links.specs.Links.{Place, same, has, once, first_of, last_of, next_in, without, IsLinked}
 use Rattle.mm_extents.specs.Heap.{Cell, extent, live, deleted, size, Heap, IsHeap, change}
 use Rattle.mm_extents.specs.Changes.{loc, loc_or, LowOr, xnext_set, xprev_set, behind_of, put_two}
 use Rattle.mm_extents.specs.Files.{FilesStand, unused_in}
+use Rattle.mm_extents.specs.Rests.{NoRest}
 use Rattle.mm_extents.specs.Tiling.{ground, IsTiled}
 use Rattle.mm_extents.specs.Chains.{ext_next, ext_prev}
 
@@ -152,3 +153,30 @@ pub record IsCutOff (heap t : Heap) (e : Place) (name : List ℕ) (n : ℕ) : Ty
   pub rest_long : length rest ≡ n - 192
   pub block : t (behind_of e 176) ≡ Some (deleted (whole_block e n) rest)
   pub others : (q : Place) → same e q ≡ false → same (behind_of e 176) q ≡ false → t q ≡ heap q
+
+-- ---- either of the two
+
+-- Which place it is: the first free extent of so many bytes, which keeps its length and leaves the free chain; or, where none has as many, a place where nothing stood.
+abbrev pub IsPlaced : Heap → List Place → List Place → Place → ℕ → ℕ → Type 0
+IsPlaced heap chain chain' e len n = (IsFirstFree heap chain len e × (has chain e ≡ true) × (chain' ≡ without e chain)) ⊎ (AllShorter heap len chain × (heap e ≡ None) × (chain' ≡ chain) × (n ≡ len))
+
+-- At e there is an extent of a namespace, of n bytes and without records, whose whole room is one deleted block. Of all else only the links of free extents change.
+pub record IsNewExtent (heap t : Heap) (chain chain' : List Place) (e : Place) (name : List ℕ) (len n : ℕ) : Type 0 where
+  pub placed : IsPlaced heap chain chain' e len n
+  pub long : len ≤ n
+  pub empty : heap (behind_of e 176) ≡ None
+  pub here : t e ≡ Some (extent (header_made e name n))
+  pub rest : List ℕ
+  pub rest_long : length rest ≡ n - 192
+  pub block : t (behind_of e 176) ≡ Some (deleted (whole_block e n) rest)
+  pub others : (q : Place) → same e q ≡ false → same (behind_of e 176) q ≡ false → without_links (t q) ≡ without_links (heap q)
+  pub same_off : (q : Place) → same e q ≡ false → same (behind_of e 176) q ≡ false → has chain q ≡ false → t q ≡ heap q
+
+-- No free extent has so many bytes, nor the unused rest of the last file, nor a file that isn't there, behind its header.
+pub record NoExtent (image : Image) (heap : Heap) (chain : List Place) (len : ℕ) : Type 0 where
+  pub short : AllShorter heap len chain
+  pub no_rest : NoRest image len
+
+-- The new extent at the place that a frame names so, and the free extents without it: what the files hold then.
+abbrev pub IsMadeOf : Image → List ℕ → Heap → List Place → FreeEnds → List ℕ → ℕ → DiskLoc → Type 0
+IsMadeOf image free heap chain ends name len at = (t : Heap) × ((e : Place) × ((n : ℕ) × ((chain' : List Place) × ((at ≡ loc e) × (HasFree image free t chain' ends × IsNewExtent heap t chain chain' e name len n)))))

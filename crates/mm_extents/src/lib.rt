@@ -8,13 +8,17 @@
 //! - Each `set_x` writes one field of one frame: the heap changes at that place alone (`change`), and every other cell, of whatever
 //!   namespace, is as it was. It declares that frame alone (`weight`).
 //! - `next_extent` answers the extent behind another.
+//! - `new_extent` makes one: the first free extent that is long enough, else bytes of the last file's unused rest, else of files that it
+//!   makes, up to the eighth (`IsNewExtent`, specs/FreeExtents; `IsRest`, specs/Rests). `NoSpace` comes exactly where none of these has as
+//!   many bytes (`NoExtent`). After an error of it the draft is to be dropped.
 //!
-//! Where there is no memory all is as it was. Which records and lists there are, and which bytes a payload has, is for the crates above.
+//! Where else there is no memory all is as it was. Which records and lists there are, and which bytes a payload has, is for the crates above.
 #![tactic(auto)]
 
 mod blocks;
 mod cells;
 mod chains;
+mod fault;
 mod free_extents;
 mod made_files;
 mod new_extents;
@@ -26,4 +30,6 @@ pub use cells::{
     set_xnext, set_xprev,
 };
 pub use chains::next_extent;
+pub use fault::SpaceFault;
+pub use new_extents::new_extent;
 pub use places::{Spot, link, named_spot, natural, no_place, place, spot_of};

@@ -1,6 +1,6 @@
 //! New extents.
 
-ghost use Rattle.std.specs.Prelude.{◌≡◌, ◌≢◌, ℕ, ◌+◌, ◌-◌, ◌%◌, ◌<◌, ◌≤◌, Some, pos, true, List, Option, length, OnOk};
+ghost use Rattle.std.specs.Prelude.{◌≡◌, ◌≢◌, ℕ, ◌+◌, ◌-◌, ◌%◌, ◌<◌, ◌≤◌, Some, pos, true, List, Option, length, IfOk, OnOk, IsErrOf};
 ghost use Rattle.mm_base.specs.Bytes.{part, padded};
 ghost use Rattle.mm_frames.specs.Texts.{text_in};
 ghost use Rattle.mm_ranges.specs.Overlay.{bytes_at};
@@ -9,12 +9,16 @@ ghost use Rattle.mm_frames.specs.declared.extent_header.ExtentHeader.{ExtentHead
 ghost use Rattle.mm_links.specs.Links.{Place, has, without};
 ghost use Rattle.mm_extents.specs.Heap.{Heap, IsHeap};
 ghost use Rattle.mm_extents.specs.Changes.{loc_or, LowOr, len_of, KeepsHeaders, DeclaresAtMost};
-ghost use Rattle.mm_extents.specs.Files.{file_len, unused_in};
+ghost use Rattle.mm_extents.specs.Files.{file_len, unused_in, FilesStand};
 ghost use Rattle.mm_frames.specs.declared.free_ends.FreeEnds.{FreeEnds};
-ghost use Rattle.mm_extents.specs.FreeExtents.{IsClear, with_extent, header_made, next_passed, prev_passed, ExtentOr, PassFits, HasFree, IsReused, IsCutOff};
+ghost use Rattle.mm_ranges.specs.declared.limits.TheConstants.{NS_FILE};
+ghost use Rattle.mm_extents.specs.Rests.{NoRest};
+ghost use Rattle.mm_extents.specs.FreeExtents.{IsFirstFree, AllShorter, IsMadeOf, NoExtent, IsClear, with_extent, header_made, next_passed, prev_passed, ExtentOr, PassFits, HasFree, IsReused, IsCutOff};
 
 use crate::cells::{overwrite, read_extent, set_xnext, set_xprev};
-use crate::made_files::put_fields;
+use crate::fault::SpaceFault;
+use crate::free_extents::first_free;
+use crate::made_files::{put_fields, rest_of};
 use crate::places::{Spot, named_spot, natural, no_place, place};
 use mm_base::{DiskLoc, Name, NoMemory};
 use mm_frames::{
@@ -151,8 +155,70 @@ pub(crate) fn cut_extent(draft: &mut Draft, at: Spot, name: &Name, len: u32) -> 
     requires long { 4096 ≤ len }
     ensures ok { OnOk result ((db : List ℕ) (heap : Heap) (chain : List Place) (ends : FreeEnds) → HasFree draft.old.image db heap chain ends → unused_in draft.old.image at.file ≡ Some (pos at.ofs) → name.now ≢ db
         → (t : Heap) × (HasFree draft.new.image db t chain ends × IsCutOff heap t (at.file, at.ofs) name.now len)) }
+    ensures ns { OnOk result (bytes_at draft.new.image NS_FILE ≡ bytes_at draft.old.image NS_FILE) }
     ensures weight { DeclaresAtMost 252 draft.old draft.new }
 {
     put_fields(draft, at.file, at.ofs + len)?;
     put_extent(draft, at, name, len)
+}
+
+// A free extent that is long enough becomes one of a namespace.
+fn reuse_new(
+    draft: &mut Draft,
+    at: Spot,
+    name: &Name,
+    len: u32,
+    free: &mut FreeEnds,
+) -> Result<DiskLoc, SpaceFault>
+    requires { (db : List ℕ) × ((heap : Heap) × ((chain : List Place) × (HasFree draft.old.image db heap chain free.old × IsFirstFree heap chain len (at.file, at.ofs)))) }
+    ensures ok { IfOk result (λ e. (db : List ℕ) (heap : Heap) (chain : List Place) → HasFree draft.old.image db heap chain free.old → IsFirstFree heap chain len (at.file, at.ofs) → name.now ≢ db
+        → IsMadeOf draft.new.image db heap chain free.new name.now len e) }
+    ensures memory { IsErrOf result SpaceFault.NoSpace → ⊥ }
+    ensures ns { OnOk result (bytes_at draft.new.image NS_FILE ≡ bytes_at draft.old.image NS_FILE) }
+    ensures weight { DeclaresAtMost 592 draft.old draft.new }
+{
+    reuse_extent(draft, at, name, free)?;
+    Ok(place(at))
+}
+
+// An extent is cut from the files, where no free one is long enough.
+fn cut_new(draft: &mut Draft, name: &Name, len: u32) -> Result<DiskLoc, SpaceFault>
+    requires stands { (db : List ℕ) × ((heap : Heap) × ((chain : List Place) × ((ends : FreeEnds) × HasFree draft.old.image db heap chain ends))) }
+    requires pages { len % 4096 ≡ 0 }
+    requires some { 0 < len }
+    ensures ok { IfOk result (λ e. (db : List ℕ) (heap : Heap) (chain : List Place) (ends : FreeEnds) → HasFree draft.old.image db heap chain ends → AllShorter heap len chain → name.now ≢ db
+        → IsMadeOf draft.new.image db heap chain ends name.now len e) }
+    ensures full { IsErrOf result SpaceFault.NoSpace → NoRest draft.old.image len }
+    ensures space { IfOk result (λ e. NoRest draft.old.image len → ⊥) }
+    ensures ns { OnOk result (bytes_at draft.new.image NS_FILE ≡ bytes_at draft.old.image NS_FILE) }
+    ensures weight { DeclaresAtMost 588 draft.old draft.new }
+{
+    let at = rest_of(draft, len)?;
+    cut_extent(draft, at, name, len)?;
+    Ok(place(at))
+}
+
+/// A new extent of a namespace, without records, of at least `len` bytes: the first free one that is long enough, which keeps its length; else
+/// `len` bytes of the last file's unused rest; else of files that are made behind it, up to the eighth. Its whole room is one deleted block.
+/// `NoSpace` where none of these has as many. After an error the draft is to be dropped.
+pub fn new_extent(
+    draft: &mut Draft,
+    name: &Name,
+    len: u32,
+    free: &mut FreeEnds,
+) -> Result<DiskLoc, SpaceFault>
+    requires stands { (db : List ℕ) × ((heap : Heap) × ((chain : List Place) × HasFree draft.old.image db heap chain free.old)) }
+    requires pages { len % 4096 ≡ 0 }
+    requires some { 0 < len }
+    ensures ok { IfOk result (λ e. (db : List ℕ) (heap : Heap) (chain : List Place) → HasFree draft.old.image db heap chain free.old → name.now ≢ db
+        → IsMadeOf draft.new.image db heap chain free.new name.now len e) }
+    ensures full { IsErrOf result SpaceFault.NoSpace → (db : List ℕ) (heap : Heap) (chain : List Place) → HasFree draft.old.image db heap chain free.old → NoExtent draft.old.image heap chain len }
+    ensures space { IfOk result (λ e. (db : List ℕ) (heap : Heap) (chain : List Place) → HasFree draft.old.image db heap chain free.old → NoExtent draft.old.image heap chain len → ⊥) }
+    ensures ns { OnOk result (bytes_at draft.new.image NS_FILE ≡ bytes_at draft.old.image NS_FILE) }
+    ensures weight { DeclaresAtMost 592 draft.old draft.new }
+{
+    match first_free(draft, free, len) {
+        Some(at) => reuse_new(draft, at, name, len, free),
+        None => cut_new(draft, name, len),
+    }
 }

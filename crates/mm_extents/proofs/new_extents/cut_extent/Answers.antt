@@ -13,6 +13,9 @@ use Rattle.mm_extents.specs.FreeExtents.{with_extent}
 use Rattle.mm_extents.proofs.FileLaws.{file_len_most}
 use Rattle.mm_extents.proofs.Headers.{unused_from, long_there}
 use Rattle.mm_extents.proofs.HeaderWrites.{header_long, zeros_there}
+use Rattle.mm_ranges.specs.declared.limits.TheConstants.{NS_FILE}
+use Rattle.mm_extents.proofs.Writes.{laid_elsewhere}
+use Rattle.mm_extents.proofs.MadeFiles.{ns_apart}
 use Rattle.mm_extents.proofs.BlockWrites.{long_laid}
 use Rattle.mm_extents.proofs.FreeWalks.{both_ok}
 use Rattle.mm_extents.proofs.CutSteps.{heap_stays, files_again, unused_off, unused_now, clear, has_free, cut_off}
@@ -96,3 +99,8 @@ returns-clause-ok c = on_ok_weaker c.put_extent.result (λ w db heap chain ends 
         cut_off c.args.draft.now.image db heap chain ends f e n known c.requires.pages l c.put_fields.«new».draft.image c.put_extent.«new».draft.image fs1 un1 un2 w.1 c.args.name.now c.put_extent.ensures.named isnt rest rest_long is3,
       ),
     )) (both_ok _ _ c.put_extent.result c.put_extent.ensures.heap c.put_extent.ensures.kept)
+
+pub returns-clause-ns : goal.returns-clause-ns
+returns-clause-ns c = on_ok_weaker c.put_extent.result (λ k.
+    k.ns ∙ ap (λ (d : Drafting). bytes_at d.image NS_FILE) c.in_ok-put_fields.ensures.ok
+    ∙ laid_elsewhere c.args.draft.now.image c.args.at.file 0 NS_FILE (take 24 (file_header_bytes (header_with c.args.at.file (c.args.at.ofs + c.args.len)))) (ns_apart c.args.at.file c.requires.file)) c.put_extent.ensures.kept
