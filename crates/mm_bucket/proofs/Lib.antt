@@ -1,0 +1,10 @@
+pub mod Keys
+pub mod Laying
+pub mod Heading
+pub mod Fitting
+pub mod Prefix
+pub mod Marking
+pub mod Nexts
+pub mod Ruling
+pub mod Spelling
+pub mod Ordering
