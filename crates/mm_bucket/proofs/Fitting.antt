@@ -110,3 +110,22 @@ fits_rest start front new ps i n p none is put len f =
     let same : front ≡ take i ps = is ∙ rw (none, k) refl in
     let rest : take (n - i) (drop i ps) ≡ drop i ps = ap (λ z. take (z - i) (drop i ps)) len ∙ take_rest ps i in
     rw (put, same, rest) (subst Fits (sym (append_assoc (take i ps) (p ∷ []) (drop i ps))) f)
+
+-- ---- one pair in place of another, as long
+
+pub fits_swapped : (ps : List Pair) (i : ℕ) (p : Pair) → i < length ps → length p.key ≡ length (pair_at ps i).key → Fits ps → Fits (take i ps ++ p ∷ drop (i + 1) ps)
+fits_swapped ps i p l e f = omega (arith, e, f, size-take ps i l, size-parts ps (i + 1), size-append (take i ps) (p ∷ drop (i + 1) ps))
+
+pub fits_swap : (start front ps : List Pair) (i : ℕ) (p : Pair) → i < length ps → length p.key ≡ length (pair_at ps i).key → start ≡ [] → front ≡ start ++ take (i - 0) ps → Fits ps → Fits (front ++ p ∷ [])
+fits_swap start front ps i p l e none is f =
+    let k : i - 0 ≡ i = omega arith in
+    let same : front ≡ take i ps = is ∙ rw (none, k) refl in
+    rw same (fits_front (take i ps ++ p ∷ []) (drop (i + 1) ps) (subst Fits (sym (append_assoc (take i ps) (p ∷ []) (drop (i + 1) ps))) (fits_swapped ps i p l e f)))
+
+pub fits_after : (start front new ps : List Pair) (i n : ℕ) (p : Pair) → i < length ps → length p.key ≡ length (pair_at ps i).key → start ≡ [] → front ≡ start ++ take (i - 0) ps → new ≡ front ++ p ∷ [] → n ≡ length ps → Fits ps
+    → Fits (new ++ take (n - (i + 1)) (drop (i + 1) ps))
+fits_after start front new ps i n p l e none is put len f =
+    let k : i - 0 ≡ i = omega arith in
+    let same : front ≡ take i ps = is ∙ rw (none, k) refl in
+    let rest : take (n - (i + 1)) (drop (i + 1) ps) ≡ drop (i + 1) ps = ap (λ z. take (z - (i + 1)) (drop (i + 1) ps)) len ∙ take_rest ps (i + 1) in
+    rw (put, same, rest) (subst Fits (sym (append_assoc (take i ps) (p ∷ []) (drop (i + 1) ps))) (fits_swapped ps i p l e f))

@@ -8,3 +8,5 @@ pub mod Nexts
 pub mod Ruling
 pub mod Spelling
 pub mod Ordering
+pub mod Filling
+pub mod Parents

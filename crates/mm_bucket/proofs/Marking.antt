@@ -81,7 +81,7 @@ uncovered (t ∷ ts) s p ps f = (
   uncovered ts s p ps.1 (λ q a b. (neither (is_in t.0 t.1 q) (is_covered ts q) (f q a b)).1),
 )
 
-covers_none : (ss : List Slot) (s : Slot) → AllByRecursion (λ t. AreApart t s) ss → (q : ℕ) → s.0 ≤ q → q < s.0 + s.1 → is_covered ss q ≡ false
+pub covers_none : (ss : List Slot) (s : Slot) → AllByRecursion (λ t. AreApart t s) ss → (q : ℕ) → s.0 ≤ q → q < s.0 + s.1 → is_covered ss q ≡ false
 covers_none [] s h q a b = refl
 covers_none (t ∷ ts) s h q a b = none (is_in t.0 t.1 q) (is_covered ts q) (λ e. differ (is_in t.0 t.1 q) e (misses_if t s h.0 q a b)) (covers_none ts s h.1 q a b)
 

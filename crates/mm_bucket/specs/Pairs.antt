@@ -1,6 +1,6 @@
 -- What a bucket holds (MongoDB 2.6, MMAPv1: BtreeBucket): its pairs of a key and a record in their order, each with the child before it, and the
 -- child behind all of them.
-use Rattle.std.specs.Prelude.{◌≡◌, ℕ, ◌+◌, ◌*◌, ◌≤◌, List, [], ◌∷◌, length, slice_index_or}
+use Rattle.std.specs.Prelude.{◌≡◌, ℕ, ◌+◌, ◌*◌, ◌≤◌, List, [], ◌∷◌, ◌++◌, length, take, drop, slice_index_or}
 use Rattle.mm_base.specs.Places.{null}
 use Rattle.mm_base.specs.declared.place.DiskLoc.{DiskLoc}
 use Rattle.mm_bson.specs.Tree.{Elements}
@@ -49,3 +49,7 @@ blank = record { left = null; rec = null; key = [] }
 
 abbrev pub pair_at : List Pair → ℕ → Pair
 pair_at ps i = slice_index_or ps i blank
+
+-- one pair with another child before it
+abbrev pub with_left : List Pair → ℕ → DiskLoc → List Pair
+with_left ps i left = take i ps ++ record (pair_at ps i) { left = left } ∷ drop (i + 1) ps

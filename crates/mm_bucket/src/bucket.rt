@@ -3,7 +3,7 @@
 ghost use Rattle.std.specs.Prelude.{◌≡◌, ◌↔◌, ◌+◌, ◌-◌, ◌*◌, ◌≤◌, ◌<◌, ◌++◌, ◌∷◌, [], List, IsTrue, IfSome, IfNone, length, take, drop, insert, remove};
 ghost use Rattle.std.specs.List.{AllByRecursion};
 ghost use Rattle.mm_base.specs.Places.{null};
-ghost use Rattle.mm_bucket.specs.Pairs.{Pair, Contents, IsKey, HasKey, Fits, HasRoom, size, pair_at};
+ghost use Rattle.mm_bucket.specs.Pairs.{Pair, Contents, IsKey, HasKey, Fits, HasRoom, size, pair_at, with_left};
 ghost use Rattle.mm_bucket.specs.Layout.{Spells, Built, Held};
 ghost use Rattle.mm_bucket.specs.Rules.{children, Agrees, AreAlike, IsBucket};
 
@@ -265,6 +265,19 @@ impl Bucket {
     {
         put_head(&mut self.bytes, self.count, self.begin, self.parent, next);
         self.next = next;
+    }
+
+    /// Puts another child before a pair.
+    pub fn set_left(&mut self, place: usize, left: DiskLoc)
+        requires { place < length self.old.pairs }
+        ensures { self.new ≡ record self.old { pairs = with_left self.old.pairs place left } }
+    {
+        let pairs = self.len();
+        let mut new = Builder::new();
+        new.append(self, 0, place);
+        new.push(left, self.rec(place), self.key(place));
+        new.append(self, place + 1, pairs);
+        *self = new.finish(self.parent(), self.next());
     }
 
     /// Puts a pair in at a place, with the child before it. The pairs from there on stand one place further.
