@@ -30,6 +30,6 @@ pub record Belongs (spec : Elements) (ps : List Pair) (key : Elements) (rec : Di
   pub above : (j : ℕ) → i ≤ j → j < length ps → compare_pair spec (pair_at ps j) key rec ≡ Greater
 
 -- where they stand
-pub record Stands (spec : Elements) (ps : List Pair) (key : Elements) (rec : DiskLoc) (i : ℕ) : Type 0 where
+pub record IsFoundAt (spec : Elements) (ps : List Pair) (key : Elements) (rec : DiskLoc) (i : ℕ) : Type 0 where
   pub inside : i < length ps
   pub equal : compare_pair spec (pair_at ps i) key rec ≡ Equal

@@ -2,7 +2,7 @@
 
 ghost use Rattle.std.specs.Prelude.{◌≡◌, ◌<◌, length, IfOk, IfErr};
 ghost use Rattle.mm_bucket.specs.Pairs.{pair_at};
-ghost use Rattle.mm_bucket.specs.Order.{compare_pair, AreInOrder, Stands, Belongs};
+ghost use Rattle.mm_bucket.specs.Order.{compare_pair, AreInOrder, IsFoundAt, Belongs};
 
 use crate::bucket::Bucket;
 use mm_base::DiskLoc;
@@ -27,7 +27,7 @@ impl Bucket {
     /// specification. The search is by halves, and no key is copied.
     pub fn find(&self, key: &Doc, rec: DiskLoc, spec: &KeySpec) -> Result<usize, usize>
         requires { AreInOrder spec.now self.now.pairs }
-        ensures found { IfOk result (Stands spec.now self.now.pairs key.now rec) }
+        ensures found { IfOk result (IsFoundAt spec.now self.now.pairs key.now rec) }
         ensures missing { IfErr result (Belongs spec.now self.now.pairs key.now rec) }
     {
         self.find_in_place(&key.as_ref(), rec, spec)
@@ -41,7 +41,7 @@ impl Bucket {
         spec: &KeySpec,
     ) -> Result<usize, usize>
         requires { AreInOrder spec.now self.now.pairs }
-        ensures found { IfOk result (Stands spec.now self.now.pairs key.now rec) }
+        ensures found { IfOk result (IsFoundAt spec.now self.now.pairs key.now rec) }
         ensures missing { IfErr result (Belongs spec.now self.now.pairs key.now rec) }
     {
         let mut low = 0;
