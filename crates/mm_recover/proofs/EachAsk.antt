@@ -4,11 +4,10 @@ use Rattle.std.proofs.lemmas.List.{take_more, take_all, take-append-drop, map-ap
 use Rattle.std.specs.declared.alloc.Global.{Global}
 use Rattle.mm_outside.specs.Told.{Told, Syncs, Removes}
 use Rattle.mm_outside.specs.Ask.{Ask, Makes, MakesSome}
-use Rattle.mm_crash.specs.Asks.{sync_asks, mark_asks, remove_asks}
-use Rattle.mm_crash.specs.Recovered.{Names}
+use Rattle.mm_crash.specs.Asks.{sync_asks, remove_asks}
 use Rattle.mm_jfiles.proofs.Asking.{some_then, some_first, made_then}
 use Rattle.mm_jfiles.specs.Names.{journal_name}
-use Rattle.mm_journal.proofs.Real.{the_format, the_names, speaks}
+use Rattle.mm_journal.proofs.Real.{the_names, speaks}
 use Rattle.mm_recover.specs.Closing.{AreNumbersOfFiles}
 
 module _ {X : Type 0} (f : X → Ask) (xs : List X) (i : ℕ) (d : X) (lt : i < length xs) where

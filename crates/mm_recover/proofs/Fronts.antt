@@ -3,13 +3,10 @@ use Rattle.std.proofs.Common.{◌≡◌, ◌⊎◌, inl, inr, ℕ, zero, suc, Bo
 use mathlib.Core.Bool.{true≢false}
 use Rattle.std.specs.Prelude.{unwrap_or, IsSome, nat_lt}
 use Rattle.std.specs.FinMap.{get}
-use Rattle.std.proofs.lemmas.Bool.{cases_lt}
 use Rattle.std.proofs.lemmas.Bool.Decides.{nat_tests}
-use Rattle.std.proofs.lemmas.Option.{none-some, same_Some}
 use Rattle.std.proofs.lemmas.List.{take_more, take_all, take-append-drop, append-nil, map-append}
 use Rattle.mm_outside.specs.Image.{Image, bytes_at}
 use Rattle.mm_section.specs.declared.section.Section.{Section}
-use Rattle.mm_jfiles.specs.Names.{journal_name}
 use Rattle.mm_crash.specs.Journal.{AllCan, HasFile, HasRuns, Run, is_last, joined}
 use Rattle.mm_crash.specs.Recovered.{journal_of}
 use Rattle.mm_journal.proofs.Real.{the_format, the_names}

@@ -1,17 +1,14 @@
 -- What stands at the front of a journal's file.
-use Rattle.std.proofs.Common.{◌≡◌, ◌⊎◌, inl, inr, ℕ, Bool, true, false, ◌+◌, ◌-◌, ◌<◌, ◌≤◌, ◌^◌, List, [], ◌++◌, length, drop, Option, Some, None, Result, Ok, Err, refl, sym, ◌∙◌, ap, subst, arith, length-append}
-use mathlib.Core.Bool.{true≢false}
-use Rattle.std.specs.Prelude.{IfOk, IfErr}
+use Rattle.std.proofs.Common.{◌≡◌, inl, inr, ℕ, Bool, true, ◌+◌, ◌-◌, ◌≤◌, List, [], ◌++◌, length, drop, Option, Result, Ok, Err, refl, sym, ◌∙◌, ap, subst, arith, length-append}
+use Rattle.std.specs.Prelude.{IfOk, IfErr, OnOk}
 use Rattle.std.proofs.lemmas.List.{append-nil}
 use Rattle.mm_frames.specs.JournalHeader.{journal_header_bytes, header_kind}
-use Rattle.mm_frames.specs.declared.journal_header.HeaderKind.{HeaderKind}
 use Rattle.mm_frames.specs.declared.journal_header.HeaderKind.TheVariants.{Ours, Foreign, Broken}
 use Rattle.mm_frames.proofs.HeaderKinds.{ours_begins}
 use Rattle.mm_section.specs.declared.section.Section.{Section}
-use Rattle.mm_crash.specs.Journal.{HasFile, IsOurs}
-use Rattle.mm_journal.specs.Real.{is_broken_kind, is_broken}
+use Rattle.mm_journal.specs.Real.{is_broken_kind}
 use Rattle.mm_journal.proofs.Real.{the_format, length-header, begins}
-use Rattle.mm_recover.specs.Reading.{IsForeign, IsGapless, HasMore, HasGap, TakesFile, HasGapBehind, EndsAtGap, HasFileFault}
+use Rattle.mm_recover.specs.Reading.{IsForeign, HasMore, HasGap, TakesFile, EndsAtGap, HasFileFault}
 use Rattle.mm_recover.specs.declared.fault.Recover.{Recover}
 use Rattle.mm_recover.specs.declared.fault.Recover.TheVariants.{DiskFault, NoMemory, BadHeader, JournalGap, BadLength}
 
@@ -72,3 +69,8 @@ err_weaker (Err e) P Q f h = f e h
 pub ok_two : {T E : Type 0} (r : Result T E) (P Q R : T → Type 0) → ((x : T) → P x → Q x → R x) → IfOk r P → IfOk r Q → IfOk r R
 ok_two (Ok x) P Q R f h k = f x h k
 ok_two (Err e) P Q R f h k = tt
+
+-- a fact of the success, and facts of its value
+pub on_and : {T E : Type 0} (r : Result T E) (M : Type 0) (P Q R : T → Type 0) → ((x : T) → M → P x → Q x → R x) → OnOk r M → IfOk r P → IfOk r Q → IfOk r R
+on_and (Ok x) M P Q R f m h k = f x m h k
+on_and (Err e) M P Q R f m h k = tt

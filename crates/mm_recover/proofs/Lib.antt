@@ -5,5 +5,11 @@ pub mod EachAsk
 pub mod Headers
 pub mod NewerAsks
 pub mod Fronts
+pub mod Settling
+pub mod Replays
+pub mod Afterwards
+pub mod LsnRead
 pub mod FileNumbers
 pub mod TouchedNames
+pub mod Counted
+pub mod Replayed

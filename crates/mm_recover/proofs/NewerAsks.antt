@@ -1,14 +1,11 @@
 -- The sections above a number, one after another.
-use Rattle.std.proofs.Common.{◌≡◌, ℕ, zero, suc, Bool, true, false, cond, ◌+◌, ◌<◌, ◌≤◌, List, [], ◌∷◌, ◌++◌, length, get_or, Option, refl, sym, ◌∙◌, ap, subst, arith}
+use Rattle.std.proofs.Common.{◌≡◌, ℕ, zero, suc, Bool, true, false, cond, ◌<◌, ◌≤◌, List, [], ◌∷◌, ◌++◌, length, get_or, refl, sym, ◌∙◌, ap, subst, arith}
 use Rattle.std.specs.Prelude.{nat_lt}
 use Rattle.std.proofs.lemmas.Bool.Decides.{nat_tests}
-use Rattle.mm_outside.specs.Told.{Told}
-use Rattle.mm_outside.specs.Ask.{Makes, MakesSome}
 use Rattle.mm_ranges.specs.declared.part.Part.{Part}
 use Rattle.mm_section.specs.declared.section.Section.{Section}
 use Rattle.mm_section.specs.Spells.{AreParts}
 use Rattle.mm_crash.specs.Overlay.{Entry}
-use Rattle.mm_crash.specs.Asks.{lay_asks}
 use Rattle.mm_crash.specs.Journal.{AllCan, above, entries_of}
 use Rattle.mm_journal.specs.Real.{disk_name}
 use Rattle.mm_journal.proofs.Real.{the_format, the_names, can_is}

@@ -150,7 +150,7 @@ module _ (lsn : Option ℕ) (n : ℕ) (bytes : List ℕ) (old now : List Section
 
 -- ---- the last number
 
-last_at : (xs : List Section) (d : Section) → 0 < length xs → (get_or xs (length xs - 1) d).number ≡ last_of xs
+pub last_at : (xs : List Section) (d : Section) → 0 < length xs → (get_or xs (length xs - 1) d).number ≡ last_of xs
 last_at [] d lt = absurd (omega arith)
 last_at (x ∷ []) d lt = refl
 last_at (x ∷ y ∷ ys) d lt =
@@ -182,3 +182,7 @@ begins_at x len id at bytes tail some is b = subst (λ n. Begins x n len (drop a
 
 pub none_at : (id at : ℕ) (bytes tail : List ℕ) → 0 < id → tail ≡ drop at bytes → spelling.HasNone id tail → spelling.HasNone (id - 1 + 1) (drop at bytes)
 none_at id at bytes tail some is none = subst (λ n. spelling.HasNone n (drop at bytes)) (same_id id some) (subst (spelling.HasNone id) is none)
+
+pub last_none : (xs : List Section) → length xs ≡ 0 → 0 ≡ last_of xs
+last_none [] e = refl
+last_none (x ∷ xs) e = absurd (omega (arith, e))

@@ -3,3 +3,4 @@ pub mod Reading
 pub mod Laying
 pub mod Closing
 pub mod Touched
+pub mod Recovering

@@ -1,4 +1,15 @@
-//! Recovery: the journal is read, its sections above the lsn are laid over the database's files, and it is cleared.
+//! Recovery: the journal is read, its sections above the lsn are laid over the databases' files, and it is cleared.
+//!
+//! - `recover` syncs every file, reads the lsn and the whole journal, lays the sections above the lsn over the files in order,
+//!   syncs the touched files, writes the lsn as the greater of the old one and the last section and syncs it, and removes the
+//!   journal's files, the oldest first. It says the lsn that it leaves and how many sections it laid.
+//! - A journal's first fault is told, by its place, before a byte is written.
+//! - Of a whole image: stopped anywhere, by a crash or a fault, it leaves whole images with the same recovered files at every
+//!   moment since it began (`KeepsRecovery`), or since its first syncs (`KeepsSettled`), as long as no torn record passes for a
+//!   whole one by chance. So it may be made again, and stopped again, to any depth.
+//!
+//! It isn't promised that a torn section, header or lsn never passes by chance, nor that memory is there: the journal's files are
+//! read whole, one at a time, and their sections are kept until they are laid.
 #![tactic(auto)]
 
 mod closing;
@@ -6,9 +17,14 @@ mod fault;
 mod files;
 mod journal;
 mod laying;
+mod log;
 mod names;
 mod numbers;
+mod recovery;
+mod replaying;
 mod sections;
 mod touched;
 
 pub use fault::Recover;
+pub use recovery::recover;
+pub use replaying::Recovered;

@@ -1,4 +1,4 @@
-use Rattle.std.proofs.Common.{[], ◌∷◌, get_or, string_bytes, refl, ◌∙◌, ap, arith}
+use Rattle.std.proofs.Common.{[], get_or, string_bytes, refl, ◌∙◌, ap, arith}
 use Rattle.mm_jfiles.proofs.Asking.{some_one, made_one, some_all}
 use Rattle.mm_recover.proofs.EachAsk.{sync_of, syncs_are, each_next, each_cut, each_done, made_by, some_by}
 use Rattle.mm_recover.proofs.closing.sync_all.Goals as goal

@@ -1,8 +1,8 @@
-use Rattle.std.proofs.Common.{◌≡◌, inr, ℕ, List, Option, Some, sym, ◌∙◌, subst}
+use Rattle.std.proofs.Common.{◌≡◌, inr, ℕ, List, ◌∙◌, subst}
 use Rattle.std.proofs.lemmas.Result.{IfOk-weaker}
-use Rattle.mm_outside.specs.Told.{Told, image_of}
+use Rattle.mm_outside.specs.Told.{image_of}
 use Rattle.mm_journal.proofs.Real.{the_names}
-use Rattle.mm_recover.specs.Reading.{TakesFile, HasFileFault, journal_in}
+use Rattle.mm_recover.specs.Reading.{TakesFile, HasFileFault}
 use Rattle.mm_recover.proofs.EachAsk.{file_named}
 use Rattle.mm_recover.proofs.Fronts.{takes_can, read_is}
 use Rattle.mm_recover.proofs.Headers.{err_weaker}

@@ -1,4 +1,3 @@
-use Rattle.std.proofs.Common.{rules}
 use Rattle.mm_journal.specs.Real.{disk_name}
 use Rattle.mm_recover.proofs.TouchedNames.{name_added}
 use Rattle.mm_recover.proofs.touched.add_file.Goals as goal
