@@ -13,3 +13,4 @@ pub mod FileNumbers
 pub mod TouchedNames
 pub mod Counted
 pub mod Replayed
+pub mod Depth

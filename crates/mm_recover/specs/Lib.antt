@@ -4,3 +4,4 @@ pub mod Laying
 pub mod Closing
 pub mod Touched
 pub mod Recovering
+pub mod Crashes

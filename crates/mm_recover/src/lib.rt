@@ -6,7 +6,7 @@
 //! - A journal's first fault is told, by its place, before a byte is written.
 //! - Of a whole image: stopped anywhere, by a crash or a fault, it leaves whole images with the same recovered files at every
 //!   moment since it began (`KeepsRecovery`), or since its first syncs (`KeepsSettled`), as long as no torn record passes for a
-//!   whole one by chance. So it may be made again, and stopped again, to any depth.
+//!   whole one by chance. So it may be made again, and stopped again, to any depth: `any_depth` is that law.
 //!
 //! It isn't promised that a torn section, header or lsn never passes by chance, nor that memory is there: the journal's files are
 //! read whole, one at a time, and their sections are kept until they are laid.
@@ -26,5 +26,5 @@ mod sections;
 mod touched;
 
 pub use fault::Recover;
-pub use recovery::recover;
+pub use recovery::{any_depth, recover};
 pub use replaying::Recovered;

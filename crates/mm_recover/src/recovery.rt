@@ -6,6 +6,7 @@ ghost use Rattle.mm_outside.specs.declared.disk.Device.TheVariants.{Fault};
 ghost use Rattle.mm_outside.specs.Fault.{HasCause};
 ghost use Rattle.mm_outside.specs.Told.{IfTold, image_of};
 ghost use Rattle.mm_recover.specs.declared.fault.Recover.TheVariants.{DiskFault};
+ghost use Rattle.mm_recover.specs.Crashes.{RecoversAtAnyDepth};
 ghost use Rattle.mm_recover.specs.Recovering.{Settles, SettlesSome, IsFaultOf, OnlySettled, Replays, EndsRecovered, KeepsRecovery, KeepsSettled};
 
 use crate::closing::sync_all;
@@ -56,4 +57,10 @@ pub fn recover<D: Disk>(alloc: Global, disk: &mut D) -> Result<Recovered, Recove
     let log = read_log(alloc, disk, &names)?;
     let names = touched(alloc, &log.sections, log.lsn.unwrap_or(0))?;
     replay(alloc, disk, &log, &names)
+}
+
+/// A law: a whole image is whole after any number of crashes within recoveries, with the same recovered files. It does nothing.
+pub fn any_depth()
+    ensures { RecoversAtAnyDepth }
+{
 }
