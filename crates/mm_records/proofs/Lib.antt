@@ -35,3 +35,8 @@ pub mod PutBack
 pub mod AddLaws
 pub mod Records
 pub mod Paying
+pub mod Extended
+pub mod ExtendedStands
+pub mod DetailsLong
+pub mod ExtendSteps
+pub mod LinkSteps

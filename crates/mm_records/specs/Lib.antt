@@ -10,3 +10,4 @@ pub mod Searching
 pub mod Taking
 pub mod Shortening
 pub mod Adding
+pub mod Extending

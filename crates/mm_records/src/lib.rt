@@ -15,6 +15,7 @@
 #![tactic(auto)]
 
 mod adding;
+mod extending;
 mod freeing;
 mod links;
 mod nodes;
