@@ -31,7 +31,7 @@ none_up_to n s (i ∷ is) h less =
     (ap (λ b. cond b (i ∷ up_to s is) (up_to s is)) above ∙ rest.0, ap (λ b. cond b (i ∷ beyond s is) (beyond s is)) below ∙ ap (λ xs. i ∷ xs) rest.1)
 
 -- an item up to the number stands first
-in_front : (s : ℕ) (i : Closed) (is : List Closed) → i.section ≤ s → (up_to s (i ∷ is) ≡ i ∷ up_to s is) × (beyond s (i ∷ is) ≡ beyond s is)
+pub in_front : (s : ℕ) (i : Closed) (is : List Closed) → i.section ≤ s → (up_to s (i ∷ is) ≡ i ∷ up_to s is) × (beyond s (i ∷ is) ≡ beyond s is)
 in_front s i is low =
     let up : nat_le i.section s ≡ true = grind (arith, nat_tests, low) in
     let not_beyond : nat_lt s i.section ≡ false = grind (arith, nat_tests, low) in

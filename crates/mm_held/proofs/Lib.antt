@@ -4,7 +4,9 @@ pub mod Folds
 pub mod Groups
 pub mod Imaging
 pub mod Items
+pub mod Loading
 pub mod Marks
 pub mod Replies
+pub mod Seating
 pub mod Sound
 pub mod Starting

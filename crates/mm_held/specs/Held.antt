@@ -1,7 +1,7 @@
 -- What a contract sees of a held database, and what is true of it at all times.
-use Rattle.std.specs.Prelude.{◌≡◌, ℕ, ◌+◌, ◌<◌, ◌≤◌, List, [], ◌∷◌, ◌++◌, Option, Some, None, length, map, take, drop, slice_get}
+use Rattle.std.specs.Prelude.{◌≡◌, ℕ, ◌+◌, ◌<◌, ◌≤◌, List, [], ◌∷◌, ◌++◌, Option, Some, None, length, map, take, drop, slice_get, slice_index_or}
 use Rattle.mm_ranges.specs.declared.part.Closed.{Closed}
-use Rattle.mm_views.specs.State.{part_of}
+use Rattle.mm_views.specs.State.{State, part_of}
 use Rattle.mm_model.specs.declared.action.Entry.{Entry}
 use Rattle.mm_model.specs.declared.command.Command.{Command}
 use Rattle.mm_model.specs.declared.reply.Reply.{Reply}
@@ -13,6 +13,7 @@ use Rattle.mm_held.specs.declared.pass.Mark.{Mark}
 use Rattle.mm_held.specs.Meaning.{Meaning, Stored}
 use Rattle.mm_held.specs.History.{fold, AreReplies}
 use Rattle.mm_held.specs.Images.{Imaged, opening, item}
+use Rattle.mm_held.specs.Loaded.{IsBegun, whole_part}
 use Rattle.mm_held.specs.Log.{joined, closed_groups, open_group, marks_in, sum, AllGiven}
 
 -- The engine and the probe; the images and the items that were given; the log in its closed groups and the opened one; and of each session's
@@ -89,6 +90,32 @@ module _ {E P : Type 0} where
   -- The pass has fewer marks than its room.
   abbrev pub HasRoom : HeldView E P → Pass → Type 0
   HasRoom v pass = (room : ℕ) × ((slice_get v.rooms pass.place ≡ Some room) × (length (taken pass.taker) < room))
+
+  -- A session's pass that was told nothing yet.
+  pub record IsNewPass (v : HeldView E P) (place : ℕ) (p : Pass) : Type 0 where
+    pub sits : p.place ≡ place
+    pub seat : IsSeated v p
+    pub room : HasRoom v p
+    pub untold : taken p.taker ≡ []
+
+  -- A pass for each room, in the order of the sessions.
+  pub record AreNewPasses (v : HeldView E P) (passes : List Pass) : Type 0 where
+    pub count : length passes ≡ length v.rooms
+    pub each : (place : ℕ) (p : Pass) → place < length passes → IsNewPass v place (slice_index_or passes place p)
+
+  -- A database begins with loaded views, and has nothing in its log. Its item 0 has the loaded files whole, with the section before the next one.
+  pub record IsStarted (m : Meaning) (engine : E) (probe : Option P) (loaded : State) (next : ℕ) (rooms : List ℕ) (groups : ℕ) (v : HeldView E P) : Type 0 where
+    pub engine_is : v.engine ≡ engine
+    pub probe_is : v.probe ≡ probe
+    pub views : IsBegun m loaded v.images.views
+    pub first : v.images.first + 1 ≡ next
+    pub given : v.images.given ≡ item v.images.first (whole_part loaded.private) 0 ∷ []
+    pub loads : opening v.images ≡ loaded.private
+    pub most : v.images.most ≡ groups + 1
+    pub applied : v.images.applied ≡ v.images.first
+    pub no_group : v.groups ≡ []
+    pub no_entry : v.waiting ≡ []
+    pub rooms_are : v.rooms ≡ rooms
 
   -- One entry more stands in the opened group, and the probe was told of it.
   pub record IsEntered (t : Telling P) (e : Entry) (old new : HeldView E P) : Type 0 where

@@ -3,6 +3,8 @@ pub mod Fates
 pub mod Held
 pub mod History
 pub mod Images
+pub mod Loaded
 pub mod Log
 pub mod Meaning
+pub mod Seats
 pub mod Steps

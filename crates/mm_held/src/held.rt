@@ -1,20 +1,22 @@
 //! The held database.
 
-ghost use Rattle.std.specs.Prelude.{◌≡◌, ◌+◌, ◌<◌, ◌++◌, ◌∷◌, [], length, map, true, IfOk, IfErr, OnOk, OnErr};
+ghost use Rattle.std.specs.Prelude.{◌≡◌, ℕ, ◌+◌, ◌<◌, ◌≤◌, ◌^◌, ◌++◌, ◌∷◌, [], length, map, sum, slice_index, true, IfOk, IfErr, OnOk, OnErr};
 ghost use Rattle.mm_views.specs.State.{weight_in};
 ghost use Rattle.mm_tie.specs.Ends.{taken, taker_ring, taker_room};
 ghost use Rattle.mm_held.specs.Meaning.{Stored};
 ghost use Rattle.mm_held.specs.Steps.{IsStep, IsCause};
 ghost use Rattle.mm_held.specs.Images.{IsApplied, last_up_to};
 ghost use Rattle.mm_held.specs.Log.{IsAboveLast, LinesRise, mark, marks_of};
-ghost use Rattle.mm_held.specs.Held.{IsHeld, IsSeated, HasRoom, IsEntered, Closes, entry, section_of, all_marks, log_of};
+ghost use Rattle.mm_held.specs.Loaded.{StandsIfAny};
+ghost use Rattle.mm_held.specs.Held.{IsStarted, IsTold, AreNewPasses, IsHeld, IsSeated, HasRoom, IsEntered, Closes, entry, section_of, all_marks, log_of};
 
 use crate::engine::Engine;
 use crate::entered::enter;
 use crate::fault::Refused;
 use crate::images::Images;
 use crate::pass::{Mark, Pass};
-use mm_base::NoMemory;
+use crate::seats::seats;
+use mm_base::{DbNo, NoMemory};
 use mm_model::{Command, Entry, Reply};
 use mm_probe::Probe;
 use mm_ranges::Closed;
@@ -67,6 +69,47 @@ pub struct Ended<P: Probe> {
 }
 
 impl<E: Engine, P: Probe> Held<E, P> {
+    /// Begins with loaded views, with a pass for each session and the feed of its items. A database without a file is set up by the engine.
+    /// `next` is the section of the first group; each room is the most entries of its session, and `groups` the most that may be closed.
+    pub fn start(
+        engine: E,
+        views: Views,
+        _db: DbNo,
+        next: u64,
+        rooms: Vec<u32>,
+        groups: u32,
+        probe: Option<P>,
+    ) -> Result<(Held<E, P>, Vec<Pass>, Feed), NoMemory>
+        requires made { views.made ≡ [] }
+        requires opened { views.opened ≡ [] }
+        requires closed { views.closed ≡ [] }
+        requires stands { StandsIfAny (E.means engine) views.private }
+        requires next { 1 ≤ next }
+        requires last { next + groups < 2 ^ 64 }
+        requires some_room { (i : ℕ) → i < length rooms.items → 1 ≤ slice_index rooms.items i }
+        requires all_rooms { sum rooms.items < 2 ^ 32 }
+        requires untold { IsTold (record { state = P.state; start = P.start; next = P.next; shown = P.shown }) [] probe }
+        ensures started { IfOk result (λ r. IsStarted (E.means engine) engine probe views next rooms.items groups r.0) }
+        ensures fact { IfOk result (λ r. IsHeld (E.means engine) (record { state = P.state; start = P.start; next = P.next; shown = P.shown }) r.0) }
+        ensures passes { IfOk result (λ r. AreNewPasses r.0 r.1.items) }
+        ensures feed { IfOk result (λ r. (taken r.2 ≡ r.0.images.given) × (taker_ring r.2 ≡ r.0.images.ring) × (taker_room r.2 ≡ r.0.images.most)) }
+    {
+        let alloc = *rooms.allocator();
+        let (images, feed) = Images::begin(&engine, alloc, views, next - 1, groups as usize + 1)?;
+        let (givers, passes) = seats(alloc, &rooms)?;
+        let counts = Vec::with_capacity(alloc, groups as usize)?;
+        let held = Held {
+            engine,
+            probe,
+            images,
+            log: Vec::new(alloc),
+            counts,
+            closed: 0,
+            givers,
+        };
+        Ok((held, passes, feed))
+    }
+
     /// Carries a command of a session out. The log has one entry more, the session one mark, and the probe is told once; what the command
     /// changes is opened, and a refusal of the command changes no view. A step that isn't taken leaves all as it was.
     pub fn step(&mut self, pass: &mut Pass, line: u32, command: &Command) -> Result<Done, Refused>

@@ -1,20 +1,24 @@
 //! The images of a database, and the items that were given for its closed groups.
 
-ghost use Rattle.std.specs.Prelude.{◌≡◌, ◌+◌, ◌<◌, ◌^◌, ◌++◌, ◌∷◌, [], length, true, IsTrue, IfOk, IfErr, OnOk, OnErr};
-ghost use Rattle.mm_views.specs.State.{closed_from, part_of, weight_in};
+ghost use Rattle.std.specs.Prelude.{◌≡◌, ◌+◌, ◌<◌, ◌≤◌, ◌^◌, ◌++◌, ◌∷◌, [], length, true, IsTrue, IfOk, IfErr, OnOk, OnErr};
+ghost use Rattle.std.specs.FinMap.{empty};
+ghost use Rattle.mm_ranges.specs.Overlay.{over};
+ghost use Rattle.mm_views.specs.State.{closed_from, part_of, weight_in, IsCovered};
 ghost use Rattle.mm_tie.specs.Ends.{taken, taker_ring, taker_room};
 ghost use Rattle.mm_tie.specs.Items.{image_of, up_to, Follows};
 ghost use Rattle.mm_held.specs.Meaning.{Stored};
 ghost use Rattle.mm_held.specs.Steps.{IsStep, IsCause};
 ghost use Rattle.mm_held.specs.Images.{IsImaged, SameItems, IsApplied, item, last_up_to};
+ghost use Rattle.mm_held.specs.Loaded.{IsBegun, StandsIfAny, whole_part};
 
 use crate::attempt::{Answer, attempt};
+use crate::begun::{begun, loaded};
 use crate::engine::Engine;
 use crate::fault::Refused;
 use mm_base::NoMemory;
 use mm_model::Command;
-use mm_ranges::Closed;
-use mm_tie::{Feed, Giver, agree, hand_over};
+use mm_ranges::{Closed, Part};
+use mm_tie::{Feed, Giver, agree, hand_over, pair};
 use mm_views::Views;
 use std::alloc::Global;
 use std::marker::Model;
@@ -48,6 +52,66 @@ impl Model for Images {
 }
 
 impl Images {
+    // Images whose item 0 has this part and section, and their feed. At most `most` items are given.
+    fn with_item(
+        alloc: Global,
+        views: Views,
+        part: Part,
+        first: u64,
+        most: usize,
+    ) -> Result<(Images, Feed), NoMemory>
+        requires whole { over part empty ≡ views.shared }
+        requires covered { IsCovered views }
+        requires closed { views.closed ≡ [] }
+        requires light { weight_in views.made views.opened ≤ 67108864 }
+        requires most { 1 ≤ most }
+        requires bound { first + most < 2 ^ 64 }
+        ensures images { IfOk result (λ r. r.0 ≡ record { views = views; first = first; given = item first part 0 ∷ []; ring = taker_ring r.1; most = most; applied = first }) }
+        ensures feed { IfOk result (λ r. (taken r.1 ≡ item first part 0 ∷ []) × (taker_room r.1 ≡ most)) }
+    {
+        let (mut giver, mut feed) = pair(alloc, most)?;
+        let item = Closed {
+            section: first,
+            part,
+            entries: 0,
+        };
+        let _ = hand_over(&mut giver, &mut feed, item);
+        let images = Images {
+            alloc,
+            views,
+            giver,
+            first,
+            last: first,
+            applied: first,
+        };
+        Ok((images, feed))
+    }
+
+    /// The images of a database that begins with loaded views, and their feed. Item 0 has the loaded files whole. At most `most` items are given.
+    pub fn begin<E: Engine>(
+        engine: &E,
+        alloc: Global,
+        mut views: Views,
+        first: u64,
+        most: usize,
+    ) -> Result<(Images, Feed), NoMemory>
+        requires made { views.made ≡ [] }
+        requires opened { views.opened ≡ [] }
+        requires closed { views.closed ≡ [] }
+        requires stands { StandsIfAny (E.means engine.now) views.private }
+        requires most { 1 ≤ most }
+        requires bound { first + most < 2 ^ 64 }
+        ensures begun { IfOk result (λ r. IsBegun (E.means engine.now) views r.0.views) }
+        ensures images { IfOk result (λ r. r.0 ≡ record { views = r.0.views; first = first; given = item first (whole_part views.private) 0 ∷ []; ring = taker_ring r.1; most = most; applied = first }) }
+        ensures opening { IfOk result (λ r. image_of r.0.given ≡ views.private) }
+        ensures feed { IfOk result (λ r. (taken r.1 ≡ r.0.given) × (taker_room r.1 ≡ most)) }
+    {
+        views.remap();
+        let part = loaded(alloc, &views)?;
+        let begun = begun(engine, views, &part)?;
+        Images::with_item(alloc, begun, part, first, most)
+    }
+
     /// Carries a command out. What it changes is opened; a refusal changes nothing.
     pub fn step<E: Engine>(&mut self, engine: &E, command: &Command) -> Result<Answer, Refused>
         requires stands { (db : Stored) × (E.means engine.now).stands self.old.views.private db }

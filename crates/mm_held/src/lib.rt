@@ -12,12 +12,14 @@
 #![tactic(auto)]
 
 mod attempt;
+mod begun;
 mod engine;
 mod entered;
 mod fault;
 mod held;
 mod images;
 mod pass;
+mod seats;
 
 pub use attempt::{MAX_GROUP_WEIGHT, MAX_STEP_WEIGHT};
 pub use engine::Engine;
