@@ -1,0 +1,74 @@
+-- What the log is at all times, and the fact that its calls keep.
+use Rattle.std.specs.Prelude.{◌≡◌, ℕ, ◌+◌, ◌-◌, ◌<◌, ◌≤◌, ◌^◌, Bool, ◌&&◌, nat_lt, ◌==◌, length, drop, get_or, Option, Some, ◌⊎◌}
+use Rattle.mm_outside.specs.Told.{Told}
+use Rattle.mm_outside.specs.Leaves.{Leaves}
+use Rattle.mm_jfiles.specs.Files.{next_number}
+use Rattle.mm_crash.specs.Journal.{AllCan}
+use Rattle.mm_crash.specs.Story.{Story}
+use Rattle.mm_crash.specs.Rest.{Counts}
+use Rattle.mm_journal.specs.Tracks.{Tracks}
+use Rattle.mm_journal.proofs.Real.{the_format, the_names}
+use Rattle.mm_prefix.specs.Prefix.{Numbers, PrefixAt, since, IsDurable}
+use Rattle.mm_durable.specs.Names.{db_of}
+use Rattle.mm_durable.specs.declared.log.Log.{Log}
+
+-- how many sections are sealed, and how many of them are synced
+abbrev pub sealed : Log → ℕ
+sealed log = log.dropped + length log.sections.items
+
+abbrev pub synced : Log → ℕ
+synced log = length log.receipts.items
+
+abbrev pub has_pending : Log → Bool
+has_pending log = nat_lt (synced log) (sealed log)
+
+-- each section is synced and marked
+abbrev pub is_marked : Log → Bool
+is_marked log = log.mark == synced log && synced log == sealed log
+
+abbrev pub numbers : Log → Numbers
+numbers log = record { mark = log.mark; floor = log.floor; synced = length log.receipts.items }
+
+-- whatever the disk tells
+pub record IsSound (log : Log) : Type 0 where
+  pub can : AllCan the_format log.sections.items
+  pub kept : log.dropped ≤ log.floor
+  pub order : log.mark ≤ log.floor
+  pub floor_synced : log.floor ≤ synced log
+  pub floor_flushed : (d : ℕ) → d < length log.names.items → log.floor ≤ get_or log.flushed.items d 0
+  pub flushed_synced : (d : ℕ) → d < length log.names.items → get_or log.flushed.items d 0 ≤ synced log
+  pub each : length log.flushed.items ≡ length log.names.items
+  pub there : synced log ≤ sealed log
+  pub few : sealed log < 2 ^ 32
+  pub last : log.last ≤ 2 ^ 63
+  pub limit : log.journal.limit ≤ 2 ^ 63
+  pub begun : next_number log.journal ≤ synced log
+
+-- Where the disk tells: a run that began when t was told has these sealed sections, and these numbers at each moment.
+pub record IsKept (t : Told) (story : Story) (history : ℕ → Numbers) (log : Log) (u : Told) : Type 0 where
+  pub counts : Counts
+  pub durable : IsDurable the_format the_names (db_of log.names.items) t story counts history log.receipts.items u
+  pub tracks : Tracks the_format log.journal counts
+  pub mark : counts.mark ≡ log.mark
+  pub floor : counts.floor ≡ log.floor
+  pub flushed : (d : ℕ) → d < length log.names.items → counts.flushed d ≡ get_or log.flushed.items d 0
+  pub sections : log.sections.items ≡ drop log.dropped story.sections
+  pub last : story.last ≡ log.last
+
+-- the section of this number is synced in this run, and this is the moment of its receipt
+pub record HasReceipt (log : Log) (section moment : ℕ) : Type 0 where
+  pub later : log.last < section
+  pub no_later : section ≤ log.last + synced log
+  pub is : moment ≡ get_or log.receipts.items (section - log.last - 1) 0
+
+-- it isn't synced, or is older than the run
+abbrev pub HasNoReceipt : Log → ℕ → Type 0
+HasNoReceipt log section = (section ≤ log.last) ⊎ (log.last + synced log < section)
+
+-- the fact goes on, with the new numbers past the moment of now
+abbrev pub Keeps : Log → Log → Option Told → Option Told → Type 0
+Keeps old new before after = (t u : Told) (story : Story) (history : ℕ → Numbers) → before ≡ Some u → IsKept t story history old u → (v : Told) × (after ≡ Some v) × IsKept t story (since (length v.calls) (numbers new) history) new v
+
+-- a call that is stopped leaves nothing else either, with the numbers as they were
+abbrev pub Leaving : Log → Option Told → Option Told → Type 0
+Leaving old before after = (t u : Told) (story : Story) (history : ℕ → Numbers) → before ≡ Some u → IsKept t story history old u → (v : Told) × (after ≡ Some v) × Leaves (PrefixAt the_format the_names story history) t v

@@ -1,0 +1,228 @@
+//! The sealed sections of a run, and how far they have come.
+
+ghost use Rattle.std.specs.Prelude.{◌≡◌, ◌+◌, ◌<◌, ◌≤◌, ◌^◌, length, IfOk, OnOk, OnErr, true, false, vec_capacity};
+ghost use Rattle.mm_outside.specs.declared.disk.Device.TheVariants.{Fault};
+ghost use Rattle.mm_outside.specs.Fault.{HasCause};
+
+use crate::spelling::spell;
+use mm_base::{Name, NoMemory};
+use mm_jfiles::{JFiles, write_mark};
+use mm_outside::{Device, Disk};
+use mm_section::Section;
+use std::alloc::Global;
+
+/// The sealed sections of a run, and how far they have come. The disk is handed in at each call, and is the same at all.
+#[derive(Drop)]
+pub struct Log {
+    alloc: Global,
+    journal: JFiles,
+    // of the databases
+    names: Vec<Name>,
+    // the number of the section before the run's first
+    last: u64,
+    // the sections that are kept, the oldest first, and how many older ones are not
+    sections: Vec<Section>,
+    dropped: usize,
+    // the moment of each synced section
+    receipts: Vec<u64>,
+    // of each database, how many sections are flushed
+    flushed: Vec<usize>,
+    floor: usize,
+    mark: usize,
+    // what a section is spelled in
+    buffer: Vec<u8>,
+}
+
+/// A section is synced in the journal since a moment of the disk: its sync had answered when so many changing calls had begun.
+#[derive(Clone, Copy, Debug, PartialEq, Eq)]
+pub struct Receipt {
+    pub section: u64,
+    pub moment: u64,
+}
+
+impl Log {
+    ghost use Rattle.std.specs.Prelude.{ℕ, IfSome, IfNone};
+    ghost use Rattle.mm_outside.specs.Told.{Told};
+    ghost use Rattle.mm_crash.specs.Recovered.{Files};
+    ghost use Rattle.mm_crash.specs.Story.{Story, with_section};
+    ghost use Rattle.mm_crash.specs.Rest.{IsNext, IsRecovered, new_story};
+    ghost use Rattle.mm_journal.proofs.Real.{the_format, the_names};
+    ghost use Rattle.mm_prefix.specs.Prefix.{Numbers, at_first};
+    ghost use Rattle.mm_durable.specs.Log.{IsSound, IsKept, Keeps, Leaving, HasReceipt, HasNoReceipt, sealed, synced, has_pending, is_marked};
+
+    /// A run that has no section yet, over a disk that was recovered, with this number in its lsn file.
+    pub fn start(alloc: Global, names: Vec<Name>, limit: u64, last: u64) -> Result<Log, NoMemory>
+        requires low { 8192 < limit }
+        requires high { limit ≤ 2 ^ 63 }
+        requires last { last ≤ 2 ^ 63 }
+        ensures sound { IfOk result (λ log. IsSound log) }
+        ensures kept { IfOk result (λ log. (files : Files) (u : Told) → IsRecovered the_format the_names files last u → IsKept u (new_story files last) at_first log u) }
+    {
+        let flushed = vec![in alloc; 0; names.as_slice().len()]?;
+        Ok(Log {
+            alloc,
+            journal: JFiles::start(alloc, limit),
+            names,
+            last,
+            sections: Vec::new(alloc),
+            dropped: 0,
+            receipts: Vec::new(alloc),
+            flushed,
+            floor: 0,
+            mark: 0,
+            buffer: Vec::new(alloc),
+        })
+    }
+
+    /// Takes the room for one sealed section more.
+    pub fn ready(&mut self) -> Result<(), NoMemory>
+        requires sound { IsSound self.old }
+        ensures sound { IsSound self.new }
+        ensures room { OnOk result (length self.new.sections.items < vec_capacity self.new.sections) }
+        ensures kept { (t u : Told) (story : Story) (history : ℕ → Numbers) → IsKept t story history self.old u → IsKept t story history self.new u }
+    {
+        self.sections.reserve(1)?;
+        Ok(())
+    }
+
+    /// Takes a sealed section behind the others. It takes no memory.
+    pub fn add(&mut self, section: Section)
+        requires sound { IsSound self.old }
+        requires room { length self.old.sections.items < vec_capacity self.old.sections }
+        requires can { the_format.can section ≡ true }
+        requires few { sealed self.old + 1 < 2 ^ 32 }
+        ensures sound { IsSound self.new }
+        ensures kept { (t u : Told) (story : Story) (history : ℕ → Numbers) → IsKept t story history self.old u → IsNext the_format the_names story section → IsKept t (with_section story section) history self.new u }
+    {
+        self.sections.push_reserved(section);
+    }
+
+    // How many sections are sealed.
+    fn sealed_count(&self) -> usize
+        requires { sealed self.now < 2 ^ 32 }
+        ensures { result ≡ sealed self.now }
+    {
+        self.dropped + self.sections.as_slice().len()
+    }
+
+    /// The number of the last synced section, or of the one before the run's first.
+    pub fn synced(&self) -> u64
+        requires { IsSound self.now }
+        ensures { result ≡ self.now.last + synced self.now }
+    {
+        self.last + self.synced_count() as u64
+    }
+
+    /// The greatest number up to which all data files are flushed and synced.
+    pub fn floor(&self) -> u64
+        requires { IsSound self.now }
+        ensures { result ≡ self.now.last + self.now.floor }
+    {
+        self.last + self.floor as u64
+    }
+
+    /// The number in the lsn file.
+    pub fn marked(&self) -> u64
+        requires { IsSound self.now }
+        ensures { result ≡ self.now.last + self.now.mark }
+    {
+        self.last + self.mark as u64
+    }
+
+    /// The receipt of a section, or None exactly where it isn't synced yet or is older than this run. It takes no memory.
+    pub fn receipt(&self, section: u64) -> Option<Receipt>
+        requires { IsSound self.now }
+        ensures some { IfSome result (λ r. (r.section ≡ section) × HasReceipt self.now section r.moment) }
+        ensures none { IfNone result (HasNoReceipt self.now section) }
+    {
+        if section <= self.last {
+            return None;
+        }
+        let place = (section - self.last - 1) as usize;
+        let moment = *self.receipts.get(place)?;
+        Some(Receipt { section, moment })
+    }
+
+    /// Writes the oldest pending section behind the journal's last and syncs it. It answers false exactly where none is pending.
+    pub fn log<D: Disk>(&mut self, disk: &mut D) -> Result<bool, Device>
+        requires sound { IsSound self.old }
+        ensures answer { IfOk result (λ logged. logged ≡ has_pending self.old) }
+        ensures sound { OnOk result (IsSound self.new) }
+        ensures kept { OnOk result (Keeps self.old self.new (D.told disk.old) (D.told disk.new)) }
+        ensures left { OnErr result (Leaving self.old (D.told disk.old) (D.told disk.new)) }
+        ensures cause { HasCause Fault (D.faults disk.old) (D.faults disk.new) result }
+    {
+        if self.synced_count() < self.sealed_count() {
+            self.log_next(disk)?;
+            Ok(true)
+        } else {
+            Ok(false)
+        }
+    }
+
+    // How many sections are synced.
+    fn synced_count(&self) -> usize
+        ensures { result ≡ synced self.now }
+    {
+        self.receipts.as_slice().len()
+    }
+
+    // Writes and syncs the oldest pending section.
+    fn log_next<D: Disk>(&mut self, disk: &mut D) -> Result<(), Device>
+        requires sound { IsSound self.old }
+        requires pending { has_pending self.old ≡ true }
+        ensures sound { OnOk result (IsSound self.new) }
+        ensures kept { OnOk result (Keeps self.old self.new (D.told disk.old) (D.told disk.new)) }
+        ensures left { OnErr result (Leaving self.old (D.told disk.old) (D.told disk.new)) }
+        ensures cause { HasCause Fault (D.faults disk.old) (D.faults disk.new) result }
+    {
+        let place = self.synced_count() - self.dropped;
+        let section = &self.sections[place];
+        self.receipts.reserve(1)?;
+        spell(section, self.journal.id(), &mut self.buffer)?;
+        self.journal.append(disk, &self.buffer, section.number)?;
+        self.journal.sync(disk)?;
+        self.receipts.push_reserved(disk.moment());
+        Ok(())
+    }
+
+    /// Writes the floor's number into the lsn file and syncs it, where it isn't there yet.
+    pub fn mark_lsn<D: Disk>(&mut self, disk: &mut D) -> Result<(), Device>
+        requires sound { IsSound self.old }
+        ensures sound { OnOk result (IsSound self.new) }
+        ensures kept { OnOk result (Keeps self.old self.new (D.told disk.old) (D.told disk.new)) }
+        ensures left { OnErr result (Leaving self.old (D.told disk.old) (D.told disk.new)) }
+        ensures cause { HasCause Fault (D.faults disk.old) (D.faults disk.new) result }
+    {
+        if self.mark < self.floor {
+            write_mark(disk, self.last + self.floor as u64)?;
+            self.mark = self.floor;
+        }
+        Ok(())
+    }
+
+    /// Removes, oldest first, each of the journal's files but the last whose sections are all marked.
+    pub fn trim<D: Disk>(&mut self, disk: &mut D) -> Result<(), Device>
+        requires sound { IsSound self.old }
+        ensures sound { OnOk result (IsSound self.new) }
+        ensures kept { OnOk result (Keeps self.old self.new (D.told disk.old) (D.told disk.new)) }
+        ensures left { OnErr result (Leaving self.old (D.told disk.old) (D.told disk.new)) }
+        ensures cause { HasCause Fault (D.faults disk.old) (D.faults disk.new) result }
+    {
+        self.journal.trim(disk, self.last + self.mark as u64)?;
+        Ok(())
+    }
+
+    /// Removes the journal's files, all of whose sections are marked.
+    pub fn clear<D: Disk>(&mut self, disk: &mut D) -> Result<(), Device>
+        requires sound { IsSound self.old }
+        requires marked { is_marked self.old ≡ true }
+        ensures sound { OnOk result (IsSound self.new) }
+        ensures kept { OnOk result (Keeps self.old self.new (D.told disk.old) (D.told disk.new)) }
+        ensures left { OnErr result (Leaving self.old (D.told disk.old) (D.told disk.new)) }
+        ensures cause { HasCause Fault (D.faults disk.old) (D.faults disk.new) result }
+    {
+        self.journal.clear(disk)?;
+        Ok(())
+    }
+}
