@@ -25,6 +25,9 @@ mod replaying;
 mod sections;
 mod touched;
 
+pub use closing::sync_all;
 pub use fault::Recover;
+pub use laying::lay_parts;
+pub use names::disk_name;
 pub use recovery::{any_depth, recover};
 pub use replaying::Recovered;
