@@ -96,8 +96,8 @@ fn lay_pieces<D: Disk>(
     Ok(())
 }
 
-// The files that the part made, and its ranges.
-fn lay_part<D: Disk>(alloc: Global, disk: &mut D, part: &Part) -> Result<(), Device>
+/// Lays a part over the files: the files that it made, and then its ranges.
+pub fn lay_part<D: Disk>(alloc: Global, disk: &mut D, part: &Part) -> Result<(), Device>
     requires { IsTrue (is_db_name part.now.name) }
     ensures made { OnOk result (Makes (lay_asks (part_entries part.now)) (D.told disk.old) (D.told disk.new)) }
     ensures cut { MakesSome (lay_asks (part_entries part.now)) (D.told disk.old) (D.told disk.new) }

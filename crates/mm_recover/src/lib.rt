@@ -27,7 +27,7 @@ mod touched;
 
 pub use closing::sync_all;
 pub use fault::Recover;
-pub use laying::lay_parts;
+pub use laying::lay_part;
 pub use names::disk_name;
 pub use recovery::{any_depth, recover};
 pub use replaying::Recovered;
