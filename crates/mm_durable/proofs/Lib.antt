@@ -4,3 +4,4 @@ pub mod Marks
 pub mod Clears
 pub mod Trims
 pub mod Begins
+pub mod Owning

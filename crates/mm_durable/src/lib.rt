@@ -6,5 +6,6 @@
 //!   alike. A call that is stopped leaves such images too.
 #![tactic(auto)]
 
+mod flushing;
 mod log;
 mod spelling;
