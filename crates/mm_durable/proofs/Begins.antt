@@ -12,7 +12,7 @@ use Rattle.mm_journal.specs.Tracks.{Tracks}
 use Rattle.mm_journal.proofs.Real.{the_format, the_names}
 use Rattle.mm_prefix.specs.Prefix.{Numbers, at_first, IsDurable}
 use Rattle.mm_prefix.proofs.Keeping.{seals, starts}
-use Rattle.mm_durable.specs.Names.{db_of}
+use Rattle.mm_durable.specs.Names.{db_of, AreDatabases, ArePartsOf, AreSectionsOf}
 use Rattle.mm_durable.specs.Log.{IsSound, IsKept, sealed}
 use Rattle.mm_durable.specs.declared.log.Log.{Log}
 
@@ -24,6 +24,10 @@ none_flushed (suc n) (suc d) = none_flushed n d
 pub can_more : (xs : List Section) (x : Section) → AllCan the_format xs → the_format.can x ≡ true → AllCan the_format (xs ++ x ∷ [])
 can_more [] x all can = (can, tt)
 can_more (y ∷ xs) x all can = (all.0, can_more xs x all.1 can)
+
+own_more : (names : List (List ℕ)) (xs : List Section) (x : Section) → AreSectionsOf names xs → ArePartsOf names x.parts → AreSectionsOf names (xs ++ x ∷ [])
+own_more names [] x all own = (own, tt)
+own_more names (y ∷ xs) x all own = (all.0, own_more names xs x all.1 own)
 
 -- a log that has nothing yet
 pub record IsNew (log : Log) (number : ℕ) : Type 0 where
@@ -69,11 +73,13 @@ adds old new x sound files names last sections dropped receipts flushed floor ma
       last = k.last ∙ sym last;
     }
 
-pub grows : (old new : Log) (x : Section) → IsSound old → the_format.can x ≡ true → sealed old + 1 < 2 ^ 32 → new.journal ≡ old.journal → new.names.items ≡ old.names.items → new.last ≡ old.last → new.sections.items ≡ old.sections.items ++ x ∷ [] → new.dropped ≡ old.dropped → new.receipts.items ≡ old.receipts.items
+pub grows : (old new : Log) (x : Section) → IsSound old → the_format.can x ≡ true → ArePartsOf old.names.items x.parts → sealed old + 1 < 2 ^ 32 → new.journal ≡ old.journal → new.names.items ≡ old.names.items → new.last ≡ old.last → new.sections.items ≡ old.sections.items ++ x ∷ [] → new.dropped ≡ old.dropped → new.receipts.items ≡ old.receipts.items
     → new.flushed.items ≡ old.flushed.items → new.floor ≡ old.floor → new.mark ≡ old.mark → IsSound new
-grows old new x s can few files names last sections dropped receipts flushed floor mark =
+grows old new x s can own few files names last sections dropped receipts flushed floor mark =
     let more : length new.sections.items ≡ length old.sections.items + 1 = ap length sections ∙ length-append old.sections.items (x ∷ []) in
     record {
+      names = subst AreDatabases (sym names) s.names;
+      own = subst (λ (l : List (List ℕ)). AreSectionsOf l new.sections.items) (sym names) (subst (AreSectionsOf old.names.items) (sym sections) (own_more old.names.items old.sections.items x s.own own));
       can = subst (AllCan the_format) (sym sections) (can_more old.sections.items x s.can can);
       kept = omega (arith, s.kept, dropped, floor);
       order = omega (arith, s.order, mark, floor);

@@ -5,3 +5,5 @@ pub mod Clears
 pub mod Trims
 pub mod Begins
 pub mod Owning
+pub mod Own
+pub mod Flushes

@@ -57,7 +57,9 @@ pub still_sound : (old : Log) → IsSound old → (f : Files) → f ≡ dropped 
 still_sound old s f is =
     let k : ℕ = how_many (old.last + old.mark) old.journal.lasts in
     record {
+      names = s.names;
       can = s.can;
+      own = s.own;
       kept = s.kept;
       order = s.order;
       floor_synced = s.floor_synced;

@@ -9,7 +9,7 @@ use Rattle.mm_crash.specs.Rest.{Counts}
 use Rattle.mm_journal.specs.Tracks.{Tracks}
 use Rattle.mm_journal.proofs.Real.{the_format, the_names}
 use Rattle.mm_prefix.specs.Prefix.{Numbers, PrefixAt, since, IsDurable}
-use Rattle.mm_durable.specs.Names.{db_of}
+use Rattle.mm_durable.specs.Names.{db_of, AreDatabases, AreSectionsOf}
 use Rattle.mm_durable.specs.declared.log.Log.{Log}
 
 -- how many sections are sealed, and how many of them are synced
@@ -31,7 +31,9 @@ numbers log = record { mark = log.mark; floor = log.floor; synced = length log.r
 
 -- whatever the disk tells
 pub record IsSound (log : Log) : Type 0 where
+  pub names : AreDatabases log.names.items
   pub can : AllCan the_format log.sections.items
+  pub own : AreSectionsOf log.names.items log.sections.items
   pub kept : log.dropped ≤ log.floor
   pub order : log.mark ≤ log.floor
   pub floor_synced : log.floor ≤ synced log

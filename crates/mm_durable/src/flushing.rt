@@ -25,12 +25,7 @@ fn is_same(one: &[u8], other: &[u8]) -> bool
 }
 
 // Lays a part, where it is of the database of this name.
-fn lay_own<D: Disk>(
-    alloc: Global,
-    disk: &mut D,
-    part: &Part,
-    name: &[u8],
-) -> Result<(), Device>
+fn lay_own<D: Disk>(alloc: Global, disk: &mut D, part: &Part, name: &[u8]) -> Result<(), Device>
     requires { IsTrue (is_db_name part.now.name) }
     ensures made { OnOk result (Makes (lay_asks (own_of name.now part.now)) (D.told disk.old) (D.told disk.new)) }
     ensures cut { MakesSome (lay_asks (own_of name.now part.now)) (D.told disk.old) (D.told disk.new) }

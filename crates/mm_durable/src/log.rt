@@ -4,6 +4,7 @@ ghost use Rattle.std.specs.Prelude.{◌≡◌, ◌+◌, ◌<◌, ◌≤◌, ◌^
 ghost use Rattle.mm_outside.specs.declared.disk.Device.TheVariants.{Fault};
 ghost use Rattle.mm_outside.specs.Fault.{HasCause};
 
+use crate::flushing::lay_sections;
 use crate::spelling::spell;
 use mm_base::{Name, NoMemory};
 use mm_jfiles::{JFiles, write_mark};
@@ -48,6 +49,7 @@ impl Log {
     ghost use Rattle.mm_crash.specs.Rest.{IsNext, IsRecovered, new_story};
     ghost use Rattle.mm_journal.proofs.Real.{the_format, the_names};
     ghost use Rattle.mm_prefix.specs.Prefix.{Numbers, at_first};
+    ghost use Rattle.mm_durable.specs.Names.{AreDatabases, ArePartsOf};
     ghost use Rattle.mm_durable.specs.Log.{IsSound, IsKept, Keeps, Leaving, HasReceipt, HasNoReceipt, sealed, synced, has_pending, is_marked};
 
     /// A run that has no section yet, over a disk that was recovered, with this number in its lsn file.
@@ -55,6 +57,7 @@ impl Log {
         requires low { 8192 < limit }
         requires high { limit ≤ 2 ^ 63 }
         requires last { last ≤ 2 ^ 63 }
+        requires names { AreDatabases names.items }
         ensures sound { IfOk result (λ log. IsSound log) }
         ensures kept { IfOk result (λ log. (files : Files) (u : Told) → IsRecovered the_format the_names files last u → IsKept u (new_story files last) at_first log u) }
     {
@@ -90,6 +93,7 @@ impl Log {
         requires sound { IsSound self.old }
         requires room { length self.old.sections.items < vec_capacity self.old.sections }
         requires can { the_format.can section ≡ true }
+        requires own { ArePartsOf self.old.names.items section.parts }
         requires few { sealed self.old + 1 < 2 ^ 32 }
         ensures sound { IsSound self.new }
         ensures kept { (t u : Told) (story : Story) (history : ℕ → Numbers) → IsKept t story history self.old u → IsNext the_format the_names story section → IsKept t (with_section story section) history self.new u }
@@ -183,6 +187,28 @@ impl Log {
         self.journal.append(disk, &self.buffer, section.number)?;
         self.journal.sync(disk)?;
         self.receipts.push_reserved(disk.moment());
+        Ok(())
+    }
+
+    /// Lays what the sections up to a number made and wrote in a database over its files, but for those sections that are flushed there
+    /// already. Nothing is synced.
+    pub fn flush<D: Disk>(&mut self, disk: &mut D, db: usize, upto: u64) -> Result<(), Device>
+        requires sound { IsSound self.old }
+        requires db { db < length self.old.names.items }
+        requires synced { upto ≤ self.old.last + synced self.old }
+        ensures sound { OnOk result (IsSound self.new) }
+        ensures kept { OnOk result (Keeps self.old self.new (D.told disk.old) (D.told disk.new)) }
+        ensures left { OnErr result (Leaving self.old (D.told disk.old) (D.told disk.new)) }
+        ensures cause { HasCause Fault (D.faults disk.old) (D.faults disk.new) result }
+    {
+        let from = self.flushed[db];
+        if upto <= self.last + from as u64 {
+            return Ok(());
+        }
+        let to = (upto - self.last) as usize;
+        let sections = &self.sections[from - self.dropped..to - self.dropped];
+        lay_sections(self.alloc, disk, sections, self.names[db].bytes())?;
+        self.flushed[db] = to;
         Ok(())
     }
 
