@@ -1,0 +1,12 @@
+//! What the buckets of an index are together: a tree (MongoDB 2.6, MMAPv1).
+//!
+//! `specs/Trees.antt` says when a subtree stands in buckets at places (`Stands`): its leaves have one depth, each child names its parent,
+//! each bucket below the root has a pair, and the pairs read in order are its list. `specs/Changes.antt` says what the steps of an insert
+//! and a removal do to buckets: one is written whole or parted in two, a root is put over two, two neighbours are joined or parted anew.
+//!
+//! `proofs/` has the laws: children go with the pairs where a bucket is edited (`TwoLists`), a subtree stands in any buckets that are the same at its places (`Frames`), some subtrees give way to others
+//! among their neighbours (`Moved`), a bucket that waits for new pairs and children is written as one or as two (`Settled`), and two
+//! neighbours with the pair between are such a bucket (`Joined`). They hold for any buckets, wherever they lie.
+//!
+//! There is no code here yet: the calls of a tree are to come.
+#![tactic(auto)]
