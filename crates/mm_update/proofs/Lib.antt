@@ -15,3 +15,5 @@ pub mod Measures
 pub mod Deep
 pub mod Commons
 pub mod Frames
+pub mod Entries
+pub mod Places

@@ -7,6 +7,7 @@ pub mod Meeting
 pub mod Met
 pub mod Changed
 pub mod Drafted
+pub mod Indexed
 pub mod DraftFalls
 pub mod Opening
 pub mod PlanView

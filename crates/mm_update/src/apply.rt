@@ -24,7 +24,7 @@ use std::alloc::{AllocError, Global};
 use std::cmp::Ordering;
 
 /// The draft's document, where it may be stored.
-fn finish(alloc: Global, draft: &Draft) -> Result<Doc, ChangeFault>
+fn finish(alloc: Global, draft: &Draft<'_>) -> Result<Doc, ChangeFault>
     ensures { Gives (λ (d : Elements). d) result (finished draft.now) }
 {
     let Some(len) = len(draft) else {
@@ -40,7 +40,7 @@ fn finish(alloc: Global, draft: &Draft) -> Result<Doc, ChangeFault>
 }
 
 /// Makes the edits one after the other.
-fn edit_all(alloc: Global, draft: &mut Draft, steps: &[Step]) -> Result<(), ChangeFault>
+fn edit_all<'a>(alloc: Global, draft: &mut Draft<'a>, steps: &'a [Step]) -> Result<(), ChangeFault>
     ensures { Gives (λ _. draft.new) result (all_edited steps.now draft.old) }
 {
     let mut rest = steps;
@@ -82,15 +82,14 @@ fn keeps_id(old: Option<&Value>, fields: &[Element]) -> bool
 }
 
 /// Puts the fields but `_id` behind the entries of a draft.
-fn add_others(draft: &mut Draft, fields: &[Element]) -> Result<(), AllocError>
+fn add_others<'a>(draft: &mut Draft<'a>, fields: &'a [Element]) -> Result<(), AllocError>
     requires { AreNames (elements_of fields.now) }
     ensures { OnOk result (draft.new ≡ append draft.old (other_fields (elements_of fields.now))) }
 {
     let mut rest = fields;
     while let [first, others @ ..] = rest {
         if !is_id(&first.name) {
-            let node = Node::Value(first.value.copy()?);
-            draft.add(first.name.copy()?, node)?;
+            draft.add(first.name.as_str(), Node::Kept(&first.value))?;
         }
         rest = others;
     }
@@ -98,19 +97,18 @@ fn add_others(draft: &mut Draft, fields: &[Element]) -> Result<(), AllocError>
 }
 
 /// A draft with the old `_id` alone.
-fn id_draft(alloc: Global, old: Option<&Value>) -> Result<Draft, AllocError>
+fn id_draft<'a>(alloc: Global, old: Option<&'a Value>) -> Result<Draft<'a>, AllocError>
     ensures { IfOk result (λ d. d ≡ id_field (option_map (λ v. tree v.now) old.entry)) }
 {
     let mut draft = Draft::new(alloc);
     if let Some(value) = old {
-        let node = Node::Value(value.copy()?);
-        draft.add(Text::from_str(alloc, ID)?, node)?;
+        draft.add(ID, Node::Kept(value))?;
     }
     Ok(draft)
 }
 
 /// The old `_id`, then the other fields of the new document.
-fn replace(alloc: Global, new: &Doc, old: &Doc) -> Result<Draft, ChangeFault>
+fn replace<'a>(alloc: Global, new: &'a Doc, old: &'a Doc) -> Result<Draft<'a>, ChangeFault>
     ensures { Gives (λ (d : Elements). d) result (replaced new.now old.now) }
 {
     let id = old.find(ID.as_bytes());
@@ -123,7 +121,7 @@ fn replace(alloc: Global, new: &Doc, old: &Doc) -> Result<Draft, ChangeFault>
 }
 
 /// The draft of a document with the edits made.
-fn edited(alloc: Global, steps: &[Step], doc: &Doc) -> Result<Draft, ChangeFault>
+fn edited<'a>(alloc: Global, steps: &'a [Step], doc: &'a Doc) -> Result<Draft<'a>, ChangeFault>
     ensures { Gives (λ (d : Elements). d) result (all_edited steps.now doc.now) }
 {
     let mut draft = Draft::open(alloc, doc)?;
@@ -131,7 +129,7 @@ fn edited(alloc: Global, steps: &[Step], doc: &Doc) -> Result<Draft, ChangeFault
     Ok(draft)
 }
 
-fn carry_out(alloc: Global, body: &Body, doc: &Doc) -> Result<Draft, ChangeFault>
+fn carry_out<'a>(alloc: Global, body: &'a Body, doc: &'a Doc) -> Result<Draft<'a>, ChangeFault>
     ensures { Gives (λ (d : Elements). d) result (carried_out (plan_in body.now) doc.now) }
 {
     match body {

@@ -18,25 +18,25 @@ use mm_bson::Value;
 use std::alloc::{AllocError, Global};
 
 /// What a node is to a step behind it.
-pub(crate) enum Opened {
-    Document(Draft),
-    Other(Node),
+pub(crate) enum Opened<'a> {
+    Document(Draft<'a>),
+    Other(Node<'a>),
 }
 
 /// A node as a draft of its document, or again where it is none.
-fn open(alloc: Global, node: Node) -> Result<Opened, AllocError>
-    ensures { IfOk result (IsOpened (node_tree node)) }
+fn open<'a>(alloc: Global, node: Node<'a>) -> Result<Opened<'a>, AllocError>
+    ensures { IfOk result (IsOpened (node_tree node.entry)) }
 {
     match node {
         Node::Document(draft) => Ok(Opened::Document(draft)),
-        Node::Value(Value::Document(doc)) => Ok(Opened::Document(Draft::open(alloc, &doc)?)),
+        Node::Kept(Value::Document(doc)) => Ok(Opened::Document(Draft::open(alloc, doc)?)),
         other => Ok(Opened::Other(other)),
     }
 }
 
 /// The draft that a step before the last leads to.
-fn inside(alloc: Global, step: &Step, old: Option<Node>) -> Result<Draft, ChangeFault>
-    ensures { Gives (λ (d : Elements). d) result (opened step.now.path (option_map node_tree old)) }
+fn inside<'a>(alloc: Global, step: &Step, old: Option<Node<'a>>) -> Result<Draft<'a>, ChangeFault>
+    ensures { Gives (λ (d : Elements). d) result (opened step.now.path (option_map node_tree old.entry)) }
 {
     match old {
         None => Ok(Draft::new(alloc)),
@@ -49,28 +49,34 @@ fn inside(alloc: Global, step: &Step, old: Option<Node>) -> Result<Draft, Change
 
 /// Makes the value at the path anew.
 #[cycle(put)]
-fn put(alloc: Global, draft: &mut Draft, path: &str, step: &Step) -> Result<(), ChangeFault>
+fn put<'a>(
+    alloc: Global,
+    draft: &mut Draft<'a>,
+    path: &'a str,
+    step: &'a Step,
+) -> Result<(), ChangeFault>
     requires { HasNoZero path.now }
     ensures { Gives (λ _. draft.new) result (put_in step.now.path (value_by step.now.operator step.now.path step.now.operand) (names path.now) draft.old) }
 {
     let first = split(path);
+    draft.prepare(alloc)?;
     let old = draft.take(first.name);
     let node = onward(alloc, first.rest, old, step)?;
-    draft.put(alloc, first.name, node)?;
+    draft.put(first.name, node)?;
     Ok(())
 }
 
 /// What becomes of what a step leads to.
 #[cycle(put)]
-fn onward(
+fn onward<'a>(
     alloc: Global,
-    rest: Option<&str>,
-    old: Option<Node>,
-    step: &Step,
-) -> Result<Node, ChangeFault>
+    rest: Option<&'a str>,
+    old: Option<Node<'a>>,
+    step: &'a Step,
+) -> Result<Node<'a>, ChangeFault>
     requires { IfSome rest (λ path. HasNoZero path.now) }
     ensures { let value = value_by step.now.operator step.now.path step.now.operand in
-        Gives node_tree result (onward_by step.now.path (behind rest.entry) value (put_in step.now.path value (behind rest.entry)) (option_map node_tree old)) }
+        Gives node_tree result (onward_by step.now.path (behind rest.entry) value (put_in step.now.path value (behind rest.entry)) (option_map node_tree old.entry)) }
 {
     match rest {
         None => new_value(alloc, step, old),
@@ -84,11 +90,12 @@ fn onward(
 
 /// Takes the field at the path out where it is there.
 #[cycle(remove)]
-fn remove(alloc: Global, draft: &mut Draft, path: &str) -> Result<(), AllocError>
+fn remove<'a>(alloc: Global, draft: &mut Draft<'a>, path: &'a str) -> Result<(), AllocError>
     requires { HasNoZero path.now }
     ensures { OnOk result (draft.new ≡ removed (names path.now) draft.old) }
 {
     let first = split(path);
+    draft.prepare(alloc)?;
     match first.rest {
         None => {
             draft.drop_first(first.name);
@@ -99,7 +106,12 @@ fn remove(alloc: Global, draft: &mut Draft, path: &str) -> Result<(), AllocError
 }
 
 #[cycle(remove)]
-fn remove_inside(alloc: Global, draft: &mut Draft, name: &str, rest: &str) -> Result<(), AllocError>
+fn remove_inside<'a>(
+    alloc: Global,
+    draft: &mut Draft<'a>,
+    name: &'a str,
+    rest: &'a str,
+) -> Result<(), AllocError>
     requires name { HasNoZero name.now }
     requires rest { HasNoZero rest.now }
     ensures { OnOk result (draft.new ≡ inside_only name.now (removed (names rest.now)) draft.old (find name.now draft.old)) }
@@ -108,15 +120,15 @@ fn remove_inside(alloc: Global, draft: &mut Draft, name: &str, rest: &str) -> Re
         None => Ok(()),
         Some(old) => {
             let node = node_without(alloc, old, rest)?;
-            draft.put(alloc, name, node)
+            draft.put(name, node)
         }
     }
 }
 
 #[cycle(remove)]
-fn node_without(alloc: Global, node: Node, rest: &str) -> Result<Node, AllocError>
+fn node_without<'a>(alloc: Global, node: Node<'a>, rest: &'a str) -> Result<Node<'a>, AllocError>
     requires { HasNoZero rest.now }
-    ensures { IfOk result (λ n. node_tree n ≡ inside_document (removed (names rest.now)) (node_tree node)) }
+    ensures { IfOk result (λ n. node_tree n ≡ inside_document (removed (names rest.now)) (node_tree node.entry)) }
 {
     match open(alloc, node)? {
         Opened::Document(mut draft) => {
@@ -128,7 +140,11 @@ fn node_without(alloc: Global, node: Node, rest: &str) -> Result<Node, AllocErro
 }
 
 /// Makes a draft what an edit makes of it.
-pub(crate) fn edit(alloc: Global, draft: &mut Draft, step: &Step) -> Result<(), ChangeFault>
+pub(crate) fn edit<'a>(
+    alloc: Global,
+    draft: &mut Draft<'a>,
+    step: &'a Step,
+) -> Result<(), ChangeFault>
     ensures { Gives (λ _. draft.new) result (edited step.now draft.old) }
 {
     match step.operator() {

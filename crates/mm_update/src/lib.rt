@@ -25,6 +25,7 @@ mod draft;
 mod edit;
 mod fault;
 mod form;
+mod index;
 mod laws;
 mod long;
 mod measure;

@@ -114,20 +114,24 @@ fn add_maker<'a>(makers: &mut Apart<'a>, step: &'a Step) -> Result<(), AllocErro
 }
 
 /// A node of the value, where there is one.
-fn node_of(old: Option<&Value>) -> Result<Option<Node>, AllocError>
-    ensures { IfOk result (λ node. option_map node_tree node ≡ option_map (λ v. tree v.now) old.entry) }
+fn node_of<'a>(old: Option<&'a Value>) -> Option<Node<'a>>
+    ensures { option_map node_tree result ≡ option_map (λ v. tree v.now) old.entry }
 {
     match old {
-        Some(value) => Ok(Some(Node::Value(value.copy()?))),
-        None => Ok(None),
+        Some(value) => Some(Node::Kept(value)),
+        None => None,
     }
 }
 
 /// How many bytes spell what a step makes of a value.
-fn value_len(alloc: Global, step: &Step, old: Option<&Value>) -> Result<usize, ChangeFault>
+fn value_len<'a>(
+    alloc: Global,
+    step: &'a Step,
+    old: Option<&'a Value>,
+) -> Result<usize, ChangeFault>
     ensures { GivesLen tree_len result (value_by step.now.operator step.now.path step.now.operand (option_map (λ v. tree v.now) old.entry)) }
 {
-    let old = node_of(old)?;
+    let old = node_of(old);
     match new_value(alloc, step, old) {
         Ok(node) => match node_len(&node) {
             Some(len) => Ok(len),

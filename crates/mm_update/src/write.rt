@@ -4,9 +4,9 @@
 ghost use Rattle.std.specs.Prelude.{◌≡◌, ◌<◌, ◌≤◌, ◌+◌, ◌-◌, ◌^◌, ◌++◌, ◌∷◌, [], length, take, drop, IfOk, OnOk};
 ghost use Rattle.std.specs.Int.{w32, to_le_bytes};
 ghost use Rattle.mm_bson.specs.Tree.{depth};
-ghost use Rattle.mm_bson.specs.View.{tree, values_of};
+ghost use Rattle.mm_bson.specs.View.{tree};
 ghost use Rattle.mm_bson.specs.Spelling.{type_byte as type_byte_of, spelling, array_spelling, value_spelling, values_spelling, element_spelling, elements_spelling, IsName, IsValue, AreElements, AreValues};
-ghost use Rattle.mm_update.specs.Drafted.{node_tree, drafted, AreNames};
+ghost use Rattle.mm_update.specs.Drafted.{node_tree, values_at, drafted, one_entry, AreNames};
 
 use crate::draft::{Draft, Entry, Node};
 use itoa::Buffer;
@@ -112,18 +112,19 @@ fn put_head(out: &mut Vec<u8>, kind: u8, name: &[u8]) -> Result<(), AllocError>
 }
 
 /// Puts the values of an array under their names.
-fn put_items(out: &mut Vec<u8>, values: &[Value]) -> Result<(), AllocError>
-    requires { length (values_spelling 0 (values_of values.now)) < 2 ^ 31 }
-    ensures items { OnOk result (out.new.items ≡ out.old.items ++ values_spelling 0 (values_of values.now)) }
-    ensures sound { OnOk result (AreValues (values_of values.now)) }
+fn put_items(out: &mut Vec<u8>, values: &[&Value]) -> Result<(), AllocError>
+    requires { length (values_spelling 0 (values_at values.now)) < 2 ^ 31 }
+    ensures items { OnOk result (out.new.items ≡ out.old.items ++ values_spelling 0 (values_at values.now)) }
+    ensures sound { OnOk result (AreValues (values_at values.now)) }
 {
     let mut place: usize = 0;
     let mut rest = values;
     while let [first, others @ ..] = rest {
-        has_spelling(first);
+        let value = *first;
+        has_spelling(value);
         let mut digits = Buffer::new();
-        put_head(out, type_byte(first), digits.format(place).as_bytes())?;
-        first.as_ref().put(out)?;
+        put_head(out, type_byte(value), digits.format(place).as_bytes())?;
+        value.as_ref().put(out)?;
         place += 1;
         rest = others;
     }
@@ -131,10 +132,10 @@ fn put_items(out: &mut Vec<u8>, values: &[Value]) -> Result<(), AllocError>
 }
 
 /// Puts an array.
-fn put_array(out: &mut Vec<u8>, values: &[Value]) -> Result<(), AllocError>
-    requires { length (array_spelling (values_of values.now)) < 2 ^ 31 }
-    ensures items { OnOk result (out.new.items ≡ out.old.items ++ array_spelling (values_of values.now)) }
-    ensures sound { OnOk result (AreValues (values_of values.now)) }
+fn put_array(out: &mut Vec<u8>, values: &[&Value]) -> Result<(), AllocError>
+    requires { length (array_spelling (values_at values.now)) < 2 ^ 31 }
+    ensures items { OnOk result (out.new.items ≡ out.old.items ++ array_spelling (values_at values.now)) }
+    ensures sound { OnOk result (AreValues (values_at values.now)) }
 {
     let start = filled(out);
     put(out, &[0; LENGTH_LEN])?;
@@ -145,34 +146,57 @@ fn put_array(out: &mut Vec<u8>, values: &[Value]) -> Result<(), AllocError>
 }
 
 /// The byte that stands before the name of a node.
-fn node_type(node: &Node) -> u8
+fn node_type(node: &Node<'_>) -> u8
     ensures { result ≡ type_byte_of (node_tree node.now) }
 {
     match node {
-        Node::Value(value) => type_byte(value),
+        Node::Kept(value) => type_byte(value),
+        Node::Int32(_) => 0x10,
+        Node::Int64(_) => 0x12,
+        Node::Null => 0x0a,
         Node::Document(_) => 0x03,
         Node::Array(_) => 0x04,
     }
 }
 
 #[cycle(put)]
-fn put_node(out: &mut Vec<u8>, node: &Node) -> Result<(), AllocError>
+fn put_node(out: &mut Vec<u8>, node: &Node<'_>) -> Result<(), AllocError>
     requires { length (value_spelling (node_tree node.now)) < 2 ^ 31 }
     ensures items { OnOk result (out.new.items ≡ out.old.items ++ value_spelling (node_tree node.now)) }
     ensures sound { OnOk result (IsValue (node_tree node.now)) }
 {
     match node {
-        Node::Value(value) => {
+        Node::Kept(value) => {
             has_spelling(value);
             value.as_ref().put(out)
         }
+        Node::Int32(number) => put(out, &number.to_le_bytes()),
+        Node::Int64(number) => put(out, &number.to_le_bytes()),
+        Node::Null => Ok(()),
         Node::Document(draft) => put_draft(out, draft),
         Node::Array(values) => put_array(out, values.as_slice()),
     }
 }
 
+/// Puts an entry, unless it was taken out.
 #[cycle(put)]
-fn put_entries(out: &mut Vec<u8>, entries: &[Entry]) -> Result<(), AllocError>
+fn put_entry(out: &mut Vec<u8>, entry: &Entry<'_>) -> Result<(), AllocError>
+    requires name { AreNames (one_entry entry.now) }
+    requires short { length (elements_spelling (one_entry entry.now)) < 2 ^ 31 }
+    ensures items { OnOk result (out.new.items ≡ out.old.items ++ elements_spelling (one_entry entry.now)) }
+    ensures sound { OnOk result (AreElements (one_entry entry.now)) }
+{
+    match &entry.node {
+        Some(node) => {
+            put_head(out, node_type(node), entry.name.as_bytes())?;
+            put_node(out, node)
+        }
+        None => Ok(()),
+    }
+}
+
+#[cycle(put)]
+fn put_entries(out: &mut Vec<u8>, entries: &[Entry<'_>]) -> Result<(), AllocError>
     requires names { AreNames (drafted entries.now) }
     requires short { length (elements_spelling (drafted entries.now)) < 2 ^ 31 }
     ensures items { OnOk result (out.new.items ≡ out.old.items ++ elements_spelling (drafted entries.now)) }
@@ -180,8 +204,7 @@ fn put_entries(out: &mut Vec<u8>, entries: &[Entry]) -> Result<(), AllocError>
 {
     let mut rest = entries;
     'entries: while let [first, others @ ..] = rest {
-        put_head(out, node_type(&first.node), first.name.as_bytes())?;
-        put_node(out, &first.node)?;
+        put_entry(out, first)?;
         rest = others;
     }
     Ok(())
@@ -189,7 +212,7 @@ fn put_entries(out: &mut Vec<u8>, entries: &[Entry]) -> Result<(), AllocError>
 
 /// Puts the spelling of a draft behind other bytes.
 #[cycle(put)]
-fn put_draft(out: &mut Vec<u8>, draft: &Draft) -> Result<(), AllocError>
+fn put_draft(out: &mut Vec<u8>, draft: &Draft<'_>) -> Result<(), AllocError>
     requires { length (spelling draft.now) < 2 ^ 31 }
     ensures items { OnOk result (out.new.items ≡ out.old.items ++ spelling draft.now) }
     ensures sound { OnOk result (AreElements draft.now) }
@@ -203,7 +226,7 @@ fn put_draft(out: &mut Vec<u8>, draft: &Draft) -> Result<(), AllocError>
 }
 
 /// The document of a draft.
-pub(crate) fn write(alloc: Global, draft: &Draft) -> Result<Doc, AllocError>
+pub(crate) fn write(alloc: Global, draft: &Draft<'_>) -> Result<Doc, AllocError>
     requires levels { depth draft.now < 100 }
     requires fits { length (spelling draft.now) < 2 ^ 31 }
     ensures { IfOk result (λ d. d ≡ draft.now) }

@@ -17,7 +17,7 @@ loop-rest-preserved-in_ok-add c =
     let draft = c.loop-rest.draft in
     let split = first_is first rest (omega arith) c.first-item.is in
     let other : bytes_eq first.name id_name ≡ false = sym c.is_id.ensures ∙ c.if-not-is_id.true in
-    let added : c.add.new.self ≡ append draft (element first.name (tree first.value) no_elements) = c.in_ok-add.ensures ∙ ap (λ n. append draft (element n (tree c.in_ok-copy.field-0) no_elements)) c.in_ok-copy-2.ensures ∙ ap (λ v. append draft (element first.name v no_elements)) c.in_ok-copy.ensures in
+    let added : c.add.new.self ≡ append draft (element first.name (tree first.value) no_elements) = c.in_ok-add.ensures ∙ ap (λ n. append draft (element n (tree first.value) no_elements)) c.as_str.ensures in
     record {
       parts = others_on draft c.add.new.self _ first.name (tree first.value) (elements_of (others rest)) other (rw split at c.loop-rest.invariant.parts) added;
       names = (rw split at c.loop-rest.invariant.names).1;

@@ -11,10 +11,10 @@ use Rattle.mm_update.proofs.edit.+put.Goals as goal
 
 pub put-returns-in_err-node : goal.put-returns-in_err-node
 put-returns-in_err-node t c =
-    let p = err_from_is_err_and c.from_residual.result c.from_residual.ensures.1 in
+    let p = err_from_is_err_and c.from_residual-in_err-node.result c.from_residual-in_err-node.ensures.1 in
     let es = c.args.draft.now in
     let name = c.split-first.result.name.now in
-    let failed = rw c.take-old.ensures.value at c.in_err-node.ensures in
+    let failed = rw c.prepare.ensures at (rw c.take-old.ensures.value at c.in_err-node.ensures) in
     rw (p.1, p.2, c.split-first.ensures.steps) (Fails-mapped (λ u. with_value name u es) c.in_err-node.field-0.0 _ failed)
 
 pub onward-returns-in_err-draft-in-Some : goal.onward-returns-in_err-draft-in-Some

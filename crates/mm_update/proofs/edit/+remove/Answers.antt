@@ -9,11 +9,11 @@ use Rattle.mm_update.proofs.edit.+remove.Goals as goal
 
 pub remove-returns-in-Some : goal.remove-returns-in-Some
 remove-returns-in-Some t c =
-    let es = c.args.draft.now in
+    let es = c.prepare.new.self in
     let name = c.split-first.result.name.now in
     let rest = c.in-Some.rest.now in
     let steps : names c.args.path.now ≡ name ∷ names rest = c.split-first.ensures.steps ∙ ap (λ o. name ∷ behind o) c.in-Some.is in
-    on_ok_weaker c.remove_inside.result (λ e. e ∙ sym (ap (λ ns. removed ns es) steps ∙ taken_inside rest name (removed (names rest)) es)) c.remove_inside.ensures
+    on_ok_weaker c.remove_inside.result (λ e. e ∙ sym (ap (λ ns. removed ns es) steps ∙ taken_inside rest name (removed (names rest)) es) ∙ ap (removed (names c.args.path.now)) c.prepare.ensures) c.remove_inside.ensures
 
 pub remove_inside-returns-in_ok-node-in-Some : goal.remove_inside-returns-in_ok-node-in-Some
 remove_inside-returns-in_ok-node-in-Some t c =

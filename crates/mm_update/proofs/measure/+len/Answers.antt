@@ -1,10 +1,12 @@
-use Rattle.std.proofs.Common.{◌≡◌, length, subst, sym, ap, arith}
+use Rattle.std.proofs.Common.{◌≡◌, length, subst, sym, ap, ◌∙◌, ◌++◌, length-append, arith}
 use Rattle.std.specs.Prelude.{IfSome}
-use Rattle.mm_bson.specs.View.{values_of}
 use Rattle.mm_bson.specs.Spelling.{spelling, array_spelling, elements_spelling, value_spelling}
 use Rattle.mm_bson.proofs.Building.{spelling_len}
-use Rattle.mm_update.specs.Drafted.{node_tree}
-use Rattle.mm_update.proofs.Listed.{no_entry_left}
+use Rattle.mm_update.specs.Drafted.{values_at, node_tree, drafted, one_entry}
+use Rattle.mm_update.proofs.Listed.{first_entry_is, no_entry_left}
+use Rattle.mm_update.proofs.Entries.{spelling_first, depth_first}
+use Rattle.mm_bson.proofs.Copies.{others}
+use Rattle.mm_bson.specs.Tree.{depth}
 use Rattle.mm_update.proofs.measure.+len.Goals as goal
 
 pub node_len-returns-in-Document : goal.node_len-returns-in-Document
@@ -16,9 +18,30 @@ pub node_len-returns-in-Array : goal.node_len-returns-in-Array
 unfolding array_spelling
 node_len-returns-in-Array t c =
     subst (λ n. IfSome c.array_len.result (λ k. k ≡ length (value_spelling (node_tree n)))) (sym c.in-Array.is)
-    (subst (λ vs. IfSome c.array_len.result (λ k. k ≡ length (array_spelling (values_of vs)))) c.as_slice.ensures.value c.array_len.ensures)
+    (subst (λ vs. IfSome c.array_len.result (λ k. k ≡ length (array_spelling (values_at vs)))) c.as_slice.ensures.value c.array_len.ensures)
 
 pub len-returns : goal.len-returns
 len-returns t c =
     let none = ap (λ es. length (elements_spelling es)) (no_entry_left c.entries.rest.now (omega arith)) in
     omega (arith, c.entries.invariant.counted, none, spelling_len c.args.draft.now)
+
+pub len-entry_len-requires : goal.len-entry_len-requires
+len-entry_len-requires t c =
+    let first = c.first-item.result in
+    let es = drafted (others c.entries.rest.now) in
+    let split = first_entry_is first c.entries.rest.now (omega arith) c.first-item.is in
+    let deep = ap depth split ∙ depth_first first.name.now first.node es in
+    omega (arith, c.decreases, c.entries.invariant.shallow, deep)
+
+pub len-entries-preserved : goal.len-entries-preserved
+len-entries-preserved t c =
+    let first = c.first-item.result in
+    let es = drafted (others c.entries.rest.now) in
+    let split = first_entry_is first c.entries.rest.now (omega arith) c.first-item.is in
+    let one = elements_spelling (one_entry first) in
+    let spelled = ap (λ ds. length (elements_spelling ds)) split ∙ ap length (spelling_first first.name.now first.node es) ∙ length-append one (elements_spelling es) in
+    let deep = ap depth split ∙ depth_first first.name.now first.node es in
+    record {
+      counted = omega (arith, c.entries.invariant.counted, spelled, c.in_ok-entry_len.ensures, c.in_ok-len.ensures.1);
+      shallow = omega (arith, c.entries.invariant.shallow, deep);
+    }

@@ -1,11 +1,11 @@
 use Rattle.std.proofs.Common.{length, ap, arith}
-use Rattle.mm_bson.specs.View.{values_of}
 use Rattle.mm_bson.specs.Spelling.{values_spelling}
 use Rattle.mm_bson.proofs.Building.{array_spelling_len}
-use Rattle.mm_update.proofs.Listed.{no_value_left}
+use Rattle.mm_update.specs.Drafted.{values_at}
+use Rattle.mm_update.proofs.Listed.{no_value_at}
 use Rattle.mm_update.proofs.measure.array_len.Goals as goal
 
 pub returns : goal.returns
 returns c =
-    let none = ap (λ vs. length (values_spelling c.loop-rest.place vs)) (no_value_left c.loop-rest.rest.now (omega arith)) in
-    omega (arith, c.loop-rest.invariant.counted, none, array_spelling_len (values_of c.args.values.now))
+    let none = ap (λ vs. length (values_spelling c.loop-rest.place vs)) (no_value_at c.loop-rest.rest.now (omega arith)) in
+    omega (arith, c.loop-rest.invariant.counted, none, array_spelling_len (values_at c.args.values.now))

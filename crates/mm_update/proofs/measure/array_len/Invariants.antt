@@ -1,11 +1,11 @@
 use Rattle.std.proofs.Common.{◌≡◌, ◌+◌, length}
-use Rattle.mm_bson.specs.View.{values_of}
 use Rattle.mm_bson.specs.Spelling.{values_spelling}
+use Rattle.mm_update.specs.Drafted.{values_at}
 use Rattle.mm_update.proofs.measure.array_len.Given as goal
 
 abbrev pub invariant-loop-rest : goal.invariant-loop-rest
 invariant-loop-rest l = record {
-  counted : l.len + length (values_spelling l.place (values_of l.rest)) ≡ 5 + length (values_spelling 0 (values_of l.values));
+  counted : l.len + length (values_spelling l.place (values_at l.rest)) ≡ 5 + length (values_spelling 0 (values_at l.values));
   places : l.place + length l.rest ≡ length l.values;
 }
 

@@ -1,10 +1,15 @@
-use Rattle.std.proofs.Common.{◌≡◌, ◌++◌, ◌∷◌, [], ◌^◌, suc, length, refl, sym, ap, subst, ◌∙◌, arith}
+use Rattle.std.proofs.Common.{◌≡◌, ◌++◌, ◌∷◌, [], ◌^◌, suc, length, refl, sym, ap, subst, ◌∙◌, append_assoc, length-append, arith}
 use Rattle.std.specs.Prelude.{OnOk}
-use Rattle.mm_bson.specs.Tree.{depth, tree_depth}
-use Rattle.mm_bson.specs.View.{values_of}
-use Rattle.mm_bson.specs.Spelling.{spelling, array_spelling, value_spelling, elements_spelling}
+use Rattle.std.specs.Str.{is_utf8}
+use Rattle.std.proofs.lemmas.Str.{is_utf8-from_IsUtf8}
+use Rattle.std.proofs.lemmas.Result.{on_ok_weaker}
+use Rattle.mm_bson.specs.Tree.{no_elements, depth, tree_depth}
+use Rattle.mm_bson.specs.Spelling.{spelling, array_spelling, value_spelling, elements_spelling, AreElements}
 use Rattle.mm_bson.proofs.Building.{spelling_len}
-use Rattle.mm_update.specs.Drafted.{node_tree, drafted, AreNames}
+use Rattle.mm_update.specs.Drafted.{values_at, node_tree, drafted, entry_on, one_entry, AreNames}
+use Rattle.mm_bson.proofs.Copies.{others}
+use Rattle.mm_update.proofs.Listed.{first_entry_is}
+use Rattle.mm_update.proofs.Entries.{spelling_first, depth_first, names_first, sound_first}
 use Rattle.mm_update.proofs.Frames.{ended, ended_room, ended_short, framed_put}
 use Rattle.mm_update.proofs.write.+put.Goals as goal
 
@@ -46,7 +51,7 @@ put_node-put_draft-requires t c =
 pub put_node-put_array-requires : goal.put_node-put_array-requires
 unfolding array_spelling
 put_node-put_array-requires t c =
-    let long : length (value_spelling (node_tree c.args.node.now)) ≡ length (array_spelling (values_of c.in-Array.values.items)) = ap (λ n. length (value_spelling (node_tree n))) c.in-Array.is in
+    let long : length (value_spelling (node_tree c.args.node.now)) ≡ length (array_spelling (values_at c.in-Array.values.items)) = ap (λ n. length (value_spelling (node_tree n))) c.in-Array.is in
     rw c.as_slice.ensures.value (omega (arith, c.requires, long))
 
 pub put_node-returns-in-Document-clause-items : goal.put_node-returns-in-Document-clause-items
@@ -58,4 +63,37 @@ pub put_node-returns-in-Array-clause-items : goal.put_node-returns-in-Array-clau
 unfolding array_spelling
 put_node-returns-in-Array-clause-items t c =
     subst (λ n. OnOk c.put_array.result (c.put_array.new.out.items ≡ c.args.out.now.items ++ value_spelling (node_tree n))) (sym c.in-Array.is)
-    (subst (λ vs. OnOk c.put_array.result (c.put_array.new.out.items ≡ c.args.out.now.items ++ array_spelling (values_of vs))) c.as_slice.ensures.value c.put_array.ensures.items)
+    (subst (λ vs. OnOk c.put_array.result (c.put_array.new.out.items ≡ c.args.out.now.items ++ array_spelling (values_at vs))) c.as_slice.ensures.value c.put_array.ensures.items)
+
+pub put_entries-put_entry-requires : goal.put_entries-put_entry-requires
+put_entries-put_entry-requires t c =
+    let first = c.first-item.result in
+    let es = drafted (others c.entries.rest.now) in
+    let split = first_entry_is first c.entries.rest.now (omega arith) c.first-item.is in
+    let one = elements_spelling (one_entry first) in
+    let spelled = ap (λ ds. length (elements_spelling ds)) split ∙ ap length (spelling_first first.name.now first.node es) ∙ length-append one (elements_spelling es) in
+    let deep = ap depth split ∙ depth_first first.name.now first.node es in
+    (omega (arith, c.decreases, c.entries.invariant.shallow, deep), ((names_first first.name.now first.node es (subst AreNames split c.entries.invariant.names)).0, omega (arith, c.entries.invariant.short, spelled)))
+
+pub put_entries-entries-preserved : goal.put_entries-entries-preserved
+put_entries-entries-preserved t c =
+    let first = c.first-item.result in
+    let es = drafted (others c.entries.rest.now) in
+    let split = first_entry_is first c.entries.rest.now (omega arith) c.first-item.is in
+    let one = elements_spelling (one_entry first) in
+    let spell = ap elements_spelling split ∙ spelling_first first.name.now first.node es in
+    let spelled = ap length spell ∙ length-append one (elements_spelling es) in
+    let deep = ap depth split ∙ depth_first first.name.now first.node es in
+    record {
+      items = ap (λ x. x ++ elements_spelling es) c.in_ok-put_entry.ensures.items ∙ append_assoc c.entries.out.items one (elements_spelling es) ∙ ap (λ x. c.entries.out.items ++ x) (sym spell) ∙ c.entries.invariant.items;
+      sound = λ h. c.entries.invariant.sound (subst AreElements (sym split) (sound_first first.name.now first.node es c.in_ok-put_entry.ensures.sound h));
+      names = (names_first first.name.now first.node es (subst AreNames split c.entries.invariant.names)).1;
+      short = omega (arith, c.entries.invariant.short, spelled);
+      shallow = omega (arith, c.entries.invariant.shallow, deep);
+    }
+
+pub put_entry-returns-in_ok-put_head-in-Some-clause-sound : goal.put_entry-returns-in_ok-put_head-in-Some-clause-sound
+put_entry-returns-in_ok-put_head-in-Some-clause-sound t c =
+    let zeros = subst (λ o. AreNames (entry_on c.args.entry.now.name.now o no_elements)) c.in-Some.is c.requires.name in
+    let utf8 = ap is_utf8 (sym c.as_bytes.ensures.value) ∙ is_utf8-from_IsUtf8 c.as_bytes.result.now c.as_bytes.ensures.utf8 in
+    on_ok_weaker c.put_node.result (λ sound. subst (λ o. AreElements (entry_on c.args.entry.now.name.now o no_elements)) (sym c.in-Some.is) ((utf8, zeros.0), sound, tt)) c.put_node.ensures.sound

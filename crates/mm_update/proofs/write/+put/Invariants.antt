@@ -1,17 +1,20 @@
 use Rattle.std.proofs.Common.{◌≡◌, ◌++◌, ◌+◌, ◌*◌, ◌≤◌, ◌<◌, ◌^◌, length}
 use Rattle.mm_bson.specs.Tree.{depth, tree_depth}
 use Rattle.mm_bson.specs.Spelling.{elements_spelling, AreElements}
-use Rattle.mm_update.specs.Drafted.{drafted, node_tree, AreNames}
+use Rattle.mm_update.specs.Drafted.{drafted, one_entry, node_tree, AreNames}
 use Rattle.mm_update.proofs.write.+put.Given as goal
 
 abbrev pub decreases-put_draft : goal.decreases-put_draft
-decreases-put_draft l = 3 * depth l.draft.now + 2
+decreases-put_draft l = 4 * depth l.draft.now + 3
 
 abbrev pub decreases-put_entries : goal.decreases-put_entries
-decreases-put_entries l = 3 * depth (drafted l.entries.now) + 1
+decreases-put_entries l = 4 * depth (drafted l.entries.now) + 2
+
+abbrev pub decreases-put_entry : goal.decreases-put_entry
+decreases-put_entry l = 4 * depth (one_entry l.entry.now) + 1
 
 abbrev pub decreases-put_node : goal.decreases-put_node
-decreases-put_node l = 3 * tree_depth (node_tree l.node.now)
+decreases-put_node l = 4 * tree_depth (node_tree l.node.now)
 
 abbrev pub invariant-put_entries-entries : goal.invariant-put_entries-entries
 invariant-put_entries-entries l = record {

@@ -16,7 +16,7 @@ pub add-requires : goal.add-requires
 add-requires c =
     let first = c.first-item.result in
     let names = rw (first_is first c.loop-rest.rest.now (omega arith) c.first-item.is) at c.loop-rest.invariant.names in
-    rw c.in_ok-copy-2.ensures names.0
+    rw c.as_str.ensures names.0
 
 pub loop-rest-preserved : goal.loop-rest-preserved
 loop-rest-preserved c =
@@ -24,7 +24,7 @@ loop-rest-preserved c =
     let rest = c.loop-rest.rest.now in
     let split = first_is first rest (omega arith) c.first-item.is in
     let one = element first.name (tree first.value) no_elements in
-    let added : c.add.new.self ≡ append c.loop-rest.draft one = c.in_ok-add.ensures ∙ ap (λ n. append c.loop-rest.draft (element n (tree c.in_ok-copy.field-0) no_elements)) c.in_ok-copy-2.ensures ∙ ap (λ v. append c.loop-rest.draft (element first.name v no_elements)) c.in_ok-copy.ensures in
+    let added : c.add.new.self ≡ append c.loop-rest.draft one = c.in_ok-add.ensures ∙ ap (λ n. append c.loop-rest.draft (element n (tree first.value) no_elements)) c.as_str.ensures in
     let whole = ap (append c.loop-rest.draft) (sym split) ∙ c.loop-rest.invariant.parts in
     record {
       parts = rw (added, append_assoc c.loop-rest.draft one (elements_of (others rest))) whole;
