@@ -9,3 +9,4 @@ pub mod Ones
 pub mod Outer
 pub mod Within
 pub mod Selected
+pub mod Marked

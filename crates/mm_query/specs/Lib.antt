@@ -4,3 +4,4 @@ pub mod Match
 pub mod Selection
 pub mod TreeCode
 pub mod Laws
+pub mod Marks

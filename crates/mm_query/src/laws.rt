@@ -4,6 +4,7 @@ ghost use Rattle.std.specs.Prelude.{◌↔◌, codes};
 ghost use Rattle.std.specs.Bool.{Decides};
 ghost use Rattle.mm_bson.specs.Tree.{document, array, Elements, no_elements, element, item, no_values};
 ghost use Rattle.mm_query.specs.Laws.{NinIsContrary, NeIsContrary};
+ghost use Rattle.mm_query.specs.Marks.{WrongComesFirst, RightIsFilter};
 ghost use Rattle.mm_query.specs.Match.{Matches};
 ghost use Rattle.mm_query.specs.Selection.{selects};
 
@@ -28,4 +29,11 @@ pub fn contraries()
 /// Matching can be told: the test `selects` is the relation.
 pub fn selects_what_matches()
     ensures { (filter document : Elements) → Decides (selects filter document) (Matches filter document) }
+{}
+
+/// A document is a filter exactly where each operator in it is right, and else
+/// the first wrong operator is the first of them, in reading order, that isn't.
+pub fn wrong_operators_come_first()
+    ensures none { RightIsFilter }
+    ensures first { WrongComesFirst }
 {}

@@ -11,7 +11,7 @@
 //!   allow counts: an operand, the end of its class, or nothing at all.
 //!
 //! Not promised: that memory suffices, and that bounds are the narrowest. In
-//! specs/, Form says which documents are filters, Match when a document matches
+//! specs/, Form says which documents are filters, Marks the same place by place, Match when a document matches
 //! one, Selection the same as a test, and Bounds what bounds are.
 #![tactic(auto)]
 
@@ -32,5 +32,8 @@ mod side;
 pub use bounds::Bounds;
 pub use fault::FilterFault;
 pub use filter::Filter;
-pub use laws::{contraries, empty_filter_matches_all, one_filter_is_itself, selects_what_matches};
+pub use laws::{
+    contraries, empty_filter_matches_all, one_filter_is_itself, selects_what_matches,
+    wrong_operators_come_first,
+};
 pub use memory::NoMemory;
