@@ -7,7 +7,7 @@ use Rattle.std.specs.List.{AllByRecursion}
 use Rattle.mm_btree.specs.Nodes.{Item, place_eq, Buckets, with_parent}
 use Rattle.mm_btree.specs.Changes.{adopted}
 use Rattle.mm_btree.specs.Lists.{has, Distinct}
-use Rattle.mm_btree.specs.Trees.{Sub, at_of, all_places, IsOver, AreBelow, Stands}
+use Rattle.mm_btree.specs.Trees.{Sub, at_of, all_places, IsOver, Stands, Below}
 use Rattle.mm_btree.proofs.ListLaws.{has-append, has-in_left, has-in_right, distinct-apart, distinct-left, distinct-right}
 
 -- what holds of each one, as the same buckets are in its places
@@ -21,11 +21,6 @@ all_same P Q ok f (c ∷ cs) same h = (
 
 root_in : (q : DiskLoc) (xs ys : List DiskLoc) → xs ≡ q ∷ ys → has q xs ≡ true
 root_in q xs ys e = rw e (or_left (place_eq q q) (has q ys) (place_eq-is q q refl))
-
--- what stands below a bucket
-abbrev pub Below : Buckets → DiskLoc → ℕ → List Item → List Sub → Type 0
-Below m at zero ps cs = cs ≡ []
-Below m at (suc h) ps cs = AreBelow (Stands m at 1 h) ps cs
 
 pub stands : (m : Buckets) (up : DiskLoc) (least h : ℕ) (s : Sub) (ps : List Item) (cs : List Sub) → IsOver m up least s ps cs → Below m s.at h ps cs → Stands m up least h s
 stands m up least zero s ps cs b t = (ps, cs, b, t)

@@ -8,11 +8,11 @@ use Rattle.mm_base.specs.declared.place.DiskLoc.{DiskLoc}
 use Rattle.mm_btree.specs.Nodes.{Item, place_eq, Node, Buckets, put}
 use Rattle.mm_btree.specs.Changes.{adopted, freed, parts_map, IsRejoined, roots_joined, between_joined}
 use Rattle.mm_btree.specs.Lists.{weave, has, Distinct}
-use Rattle.mm_btree.specs.Trees.{Sub, at_of, pairs_of, places_of, all_places, IsOver, Stands, Moves, Became}
+use Rattle.mm_btree.specs.Trees.{Sub, at_of, pairs_of, places_of, all_places, IsOver, Stands, Moves, Became, Below, sub, Pending}
 use Rattle.mm_btree.proofs.ListLaws.{has-append, has-append-left, has-append-right, has-append-both, distinct-apart, distinct-left, distinct-right, distinct-join, weave-parts}
-use Rattle.mm_btree.proofs.Frames.{Below, opened, all_adopted, all_stand_same, roots_in}
+use Rattle.mm_btree.proofs.Frames.{opened, all_adopted, all_stand_same, roots_in}
 use Rattle.mm_btree.proofs.Moved.{all-append}
-use Rattle.mm_btree.proofs.Settled.{Pending, settled_one, settled_two, sub}
+use Rattle.mm_btree.proofs.Settling.{settled_one, settled_two}
 
 kids_within : (m : Buckets) (at : DiskLoc) (h : ℕ) (ps : List Item) (cs : List Sub) → Below m at h ps cs → (q : DiskLoc) → has q (map at_of cs) ≡ true → has q (all_places cs) ≡ true
 kids_within m at zero ps cs t q e = let none : has q (map at_of []) ≡ true = subst (λ (xs : List Sub). has q (map at_of xs) ≡ true) t e in absurd cc

@@ -3,6 +3,9 @@ pub mod TwoLists
 pub mod ListLaws
 pub mod Frames
 pub mod Moved
-pub mod Settled
+pub mod Settling
 pub mod Joined
 pub mod Segments
+pub mod Thin
+pub mod Large
+pub mod Rooting

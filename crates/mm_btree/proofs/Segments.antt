@@ -10,10 +10,10 @@ use Rattle.mm_btree.specs.Nodes.{Item, place_eq, Node, Buckets, put}
 use Rattle.mm_btree.specs.Changes.{Up, IsSettled, roots_of, between_of}
 use Rattle.mm_base.specs.Places.{null}
 use Rattle.mm_btree.specs.Lists.{front, back, weave, Distinct, ins, Sorted, BeginsAbove, Chains}
-use Rattle.mm_btree.specs.Trees.{Sub, at_of, pairs_of, all_places, IsOver, AreBelow, Stands, Moves, Became}
+use Rattle.mm_btree.specs.Trees.{Sub, at_of, pairs_of, all_places, IsOver, AreBelow, Stands, Moves, Became, Pending, sub, Changed}
 use Rattle.mm_btree.proofs.ListLaws.{weave-at, weave-middle, ins-behind, ins-before, front-before, back-begins, sorted-left, sorted-right, distinct-left, distinct-right}
 use Rattle.mm_btree.proofs.Moved.{replaced, places_at}
-use Rattle.mm_btree.proofs.Settled.{Pending, settled_one, settled_two, sub}
+use Rattle.mm_btree.proofs.Settling.{settled_one, settled_two}
 
 -- the bucket is written as one or as two
 pub settled : (m n n2 : Buckets) (up at : DiskLoc) (h : ℕ) (old : List DiskLoc) (list ps : List Item) (cs : List Sub) → 1 ≤ length ps → Pending m n at h old list ps cs → n at ≢ None
@@ -156,12 +156,6 @@ kids_more cs ds i r s l two =
     ∙ ap (λ xs. xs ++ r ∷ drop (suc i) kids) (ap (λ z. take i kids ++ z ∷ []) (sym root) ∙ sym (take-suc kids i null (omega (arith, len, l))))))
 
 -- ---- some neighbours have become others
-
--- What a change of some neighbours leaves above them.
-pub record Changed (m n : Buckets) (h : ℕ) (s : Sub) (ps rs qs : List Item) (ls es bs : List Sub) (mine between : List Item) (ds : List Sub) : Type 0 where
-  pub was : s.pairs ≡ front (map pairs_of ls) ps ++ (weave (map pairs_of es) rs ++ back (map pairs_of bs) qs)
-  pub pending : Pending m n s.at (suc h) s.places (front (map pairs_of ls) ps ++ (mine ++ back (map pairs_of bs) qs)) (ps ++ (between ++ qs)) (ls ++ (ds ++ bs))
-  pub above : n s.at ≡ m s.at
 
 pub changed_segment : (m n : Buckets) (up : DiskLoc) (least h : ℕ) (s : Sub) (ps rs qs : List Item) (ls es bs : List Sub) (mine : List Item) (roots : List DiskLoc) (between : List Item) (ds : List Sub)
     → IsOver m up least s (ps ++ (rs ++ qs)) (ls ++ (es ++ bs)) → AllByRecursion (Stands m s.at 1 h) (ls ++ (es ++ bs))

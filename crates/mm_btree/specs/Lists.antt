@@ -47,3 +47,7 @@ BeginsAbove lt x (y ∷ ys) = lt x y ≡ true
 -- one order after another
 abbrev pub Chains : {P : Type 0} → (P → P → Bool) → Type 0
 Chains {P} lt = (x y z : P) → lt x y ≡ true → lt y z ≡ true → lt x z ≡ true
+
+-- one of two that differ is less
+abbrev pub Told : {P : Type 0} → (P → P → Bool) → P → P → Type 0
+Told lt x y = lt x y ≡ false → lt y x ≡ true

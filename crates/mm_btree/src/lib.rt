@@ -5,8 +5,16 @@
 //! and a removal do to buckets: one is written whole or parted in two, a root is put over two, two neighbours are joined or parted anew.
 //!
 //! `proofs/` has the laws: children go with the pairs where a bucket is edited (`TwoLists`), a subtree stands in any buckets that are the same at its places (`Frames`), some subtrees give way to others
-//! among their neighbours (`Moved`), a bucket that waits for new pairs and children is written as one or as two (`Settled`), and two
+//! among their neighbours (`Moved`), a bucket that waits for new pairs and children is written as one or as two (`Settling`), and two
 //! neighbours with the pair between are such a bucket (`Joined`). They hold for any buckets, wherever they lie.
 //!
-//! There is no code here yet: the calls of a tree are to come.
+//! `laws.rt` has each of them as the contract of a function that does nothing. There is no other code here yet: the calls of a tree are
+//! to come.
 #![tactic(auto)]
+
+mod laws;
+
+pub use laws::{
+    children_go_along, high_trees_are_large, neighbours_changed, order_is_kept, rejoined, rooted,
+    settled, stands_elsewhere, thinned_then_joined,
+};

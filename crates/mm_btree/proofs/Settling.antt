@@ -9,24 +9,14 @@ use Rattle.std.specs.List.{AllByRecursion}
 use Rattle.mm_btree.specs.Nodes.{Item, place_eq, Buckets, put}
 use Rattle.mm_btree.specs.Changes.{adopted, parts_map}
 use Rattle.mm_btree.specs.Lists.{weave, has, Distinct}
-use Rattle.mm_btree.specs.Trees.{Sub, at_of, pairs_of, places_of, all_places, Stands, Moves, Became}
+use Rattle.mm_btree.specs.Trees.{Sub, at_of, pairs_of, places_of, all_places, Stands, Moves, Became, Below, sub, Pending}
 use Rattle.mm_btree.proofs.ListLaws.{has-append, has-append-left, has-append-right, has-append-both, distinct-apart, distinct-left, distinct-right, distinct-join, weave-parts}
-use Rattle.mm_btree.proofs.Frames.{Below, stands, below_same, below_some, all_adopted, roots_in}
+use Rattle.mm_btree.proofs.Frames.{stands, below_same, below_some, all_adopted, roots_in}
 use Rattle.mm_btree.proofs.Moved.{moves_then, all-left, all-right}
-
--- The bucket at a place is to get these pairs and subtrees, which hold the list.
-pub record Pending (m n : Buckets) (at : DiskLoc) (h : ℕ) (old : List DiskLoc) (list ps : List Item) (cs : List Sub) : Type 0 where
-  pub below : Below n at h ps cs
-  pub woven : weave (map pairs_of cs) ps ≡ list
-  pub apart : Distinct (at ∷ all_places cs)
-  pub moved : Moves m n old (at ∷ all_places cs)
 
 append-nil : {P : Type 0} (xs : List P) → xs ++ [] ≡ xs
 append-nil [] = refl
 append-nil (x ∷ xs) = ap (λ ys. x ∷ ys) (append-nil xs)
-
-abbrev pub sub : DiskLoc → List Item → List Sub → Sub
-sub at ps cs = record { at = at; pairs = weave (map pairs_of cs) ps; places = at ∷ all_places cs }
 
 pub settled_one : (m n n2 : Buckets) (up at : DiskLoc) (h : ℕ) (old : List DiskLoc) (list ps : List Item) (cs : List Sub) → 1 ≤ length ps → Pending m n at h old list ps cs
     → ((q : DiskLoc) → n2 q ≡ put n at (Some (record { parent = up; pairs = ps; kids = map at_of cs })) q)

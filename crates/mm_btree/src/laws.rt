@@ -1,0 +1,86 @@
+//! Laws of trees, each the contract of a function that does nothing. They hold of any buckets, wherever they lie.
+
+ghost use Rattle.std.specs.Prelude.{◌≡◌, ◌≢◌, ◌≤◌, ◌<◌, ◌++◌, ◌∷◌, [], ◌^◌, ℕ, suc, List, Bool, true, Option, Some, None, length, map, insert, remove};
+ghost use Rattle.std.specs.List.{AllByRecursion};
+ghost use Rattle.mm_base.specs.Places.{null};
+ghost use Rattle.mm_base.specs.declared.place.DiskLoc.{DiskLoc};
+ghost use Rattle.mm_bucket.specs.Pairs.{Pair, Contents};
+ghost use Rattle.mm_bucket.specs.Rules.{children};
+ghost use Rattle.mm_btree.specs.Nodes.{Item, Node, Buckets};
+ghost use Rattle.mm_btree.specs.Lists.{has, Distinct, ins, Sorted, Chains, Told};
+ghost use Rattle.mm_btree.specs.Trees.{Sub, at_of, all_places, IsOver, Stands, Moves, Became, Pending, sub, Changed, Thinned, Beside};
+ghost use Rattle.mm_btree.specs.Changes.{Up, IsSettled, roots_of, between_of, IsRejoined, roots_joined, between_joined, StandsAt, rooted_map};
+
+/// A bucket's children go with its pairs: one is put in or taken out with its pair, and they are parted where the pairs are, the child
+/// before the pair between being the last one of the left part.
+pub fn children_go_along()
+    ensures inserted { (b : Contents) (i : ℕ) (p : Pair) → i ≤ length b.pairs
+        → children (record b { pairs = insert b.pairs i p }) ≡ insert (children b) i p.left }
+    ensures removed { (b : Contents) (i : ℕ) → i < length b.pairs
+        → children (record b { pairs = remove b.pairs i }) ≡ remove (children b) i }
+    ensures parted { (up : DiskLoc) (ps qs : List Pair) (mid : Pair) (last : DiskLoc)
+        → children (record { parent = up; pairs = ps ++ mid ∷ qs; next = last })
+        ≡ children (record { parent = up; pairs = ps; next = mid.left }) ++ children (record { parent = up; pairs = qs; next = last }) }
+{}
+
+/// A subtree stands in any buckets that are the same at its places, and a bucket stands at each of them.
+pub fn stands_elsewhere()
+    ensures same { (m n : Buckets) (up : DiskLoc) (least h : ℕ) (s : Sub) → ((q : DiskLoc) → has q s.places ≡ true → n q ≡ m q)
+        → Stands m up least h s → Stands n up least h s }
+    ensures some { (m : Buckets) (up : DiskLoc) (least h : ℕ) (s : Sub) → Stands m up least h s
+        → (q : DiskLoc) → has q s.places ≡ true → m q ≢ None }
+{}
+
+/// A subtree of height h has 2 to the power of h buckets or more.
+pub fn high_trees_are_large()
+    ensures { (m : Buckets) (up : DiskLoc) (h : ℕ) (s : Sub) → Stands m up 1 h s → 2 ^ h ≤ length s.places }
+{}
+
+/// Some neighbours below a bucket have become others: the bucket above waits for their roots and the pairs between them, and its list
+/// changes in the middle alone.
+pub fn neighbours_changed()
+    ensures { (m n : Buckets) (up : DiskLoc) (least h : ℕ) (s : Sub) (ps rs qs : List Item) (ls es bs : List Sub)
+        (mine : List Item) (roots : List DiskLoc) (between : List Item) (ds : List Sub)
+        → IsOver m up least s (ps ++ (rs ++ qs)) (ls ++ (es ++ bs)) → AllByRecursion (Stands m s.at 1 h) (ls ++ (es ++ bs))
+        → length ls ≡ length ps → length es ≡ suc (length rs) → length bs ≡ length qs → Distinct s.places
+        → Became m n s.at h (all_places es) mine roots between ds → length ds ≡ suc (length between)
+        → Changed m n h s ps rs qs ls es bs mine between ds }
+{}
+
+/// A bucket that waits for pairs and subtrees is written whole, or as two with a pair going up: then the subtree has become one or two.
+pub fn settled()
+    ensures { (m n o : Buckets) (up at : DiskLoc) (h : ℕ) (old : List DiskLoc) (list ps : List Item) (cs : List Sub) → 1 ≤ length ps
+        → Pending m n at h old list ps cs → n at ≢ None → (r : Option Up)
+        → IsSettled n o at (record { parent = up; pairs = ps; kids = map at_of cs }) r
+        → (ds : List Sub) × Became m o up h old list (roots_of at r) (between_of r) ds }
+{}
+
+/// A new root over the two that a root has become is a tree, one level higher.
+pub fn rooted()
+    ensures { (lt : Item → Item → Bool) (m n o : Buckets) (h : ℕ) (root p : DiskLoc) (old : List DiskLoc) (list : List Item) (u : Up) (ds : List Sub)
+        → Became m n null h old list (root ∷ u.right ∷ []) (u.mid ∷ []) ds → Sorted lt list → n p ≡ None
+        → ((q : DiskLoc) → o q ≡ rooted_map n p root u q)
+        → StandsAt lt o null (suc h) (sub p (u.mid ∷ []) ds) p × Moves m o old (p ∷ all_places ds) }
+{}
+
+/// Two neighbours and the pair between them are joined in one, the right one freed, or parted anew with another pair between.
+pub fn rejoined()
+    ensures { (m n : Buckets) (up : DiskLoc) (h : ℕ) (mid : Item) (l r : Sub) (b c : Node) (result : Option Item)
+        → Stands m up 0 h l → Stands m up 0 h r → Distinct (l.places ++ r.places) → m l.at ≡ Some b → m r.at ≡ Some c
+        → IsRejoined m n l.at r.at b mid c result
+        → (ds : List Sub) × Became m n up h (l.places ++ r.places) (l.pairs ++ mid ∷ r.pairs) (roots_joined l.at r.at result) (between_joined result) ds }
+{}
+
+/// A child has lost its last pair, and then was joined with the neighbour before it: both steps are one change of the two as they stood.
+pub fn thinned_then_joined()
+    ensures beside { (m n : Buckets) (up : DiskLoc) (h : ℕ) (l c t : Sub) → Stands m up 1 h l → Distinct (l.places ++ c.places)
+        → Thinned m n up h c t → Beside m n up h l c t }
+    ensures joined { (m n o : Buckets) (up : DiskLoc) (h : ℕ) (l c t : Sub) (list : List Item) (roots : List DiskLoc) (between : List Item) (ds : List Sub)
+        → Beside m n up h l c t → Became n o up h (l.places ++ t.places) list roots between ds
+        → Became m o up h (all_places (l ∷ c ∷ [])) list roots between ds }
+{}
+
+/// A list in order stays so with one more in its place.
+pub fn order_is_kept()
+    ensures { (lt : Item → Item → Bool) → Chains lt → (x : Item) (xs : List Item) → AllByRecursion (Told lt x) xs → Sorted lt xs → Sorted lt (ins lt x xs) }
+{}
