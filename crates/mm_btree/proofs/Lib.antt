@@ -9,3 +9,4 @@ pub mod Segments
 pub mod Thin
 pub mod Large
 pub mod Rooting
+pub mod Inserting

@@ -1,10 +1,11 @@
 -- What the steps of a tree do to buckets, and what a tree is.
-use Rattle.std.specs.Prelude.{◌≡◌, ℕ, zero, suc, ◌≤◌, Bool, true, List, [], ◌∷◌, ◌++◌, length, take, drop, Option, Some, None, cond, IsSome}
+use Rattle.std.specs.Prelude.{◌≡◌, ℕ, zero, suc, ◌≤◌, Bool, true, false, List, [], ◌∷◌, ◌++◌, length, take, drop, Option, Some, None, cond, IsSome}
+use Rattle.std.specs.List.{AllByRecursion}
 use Rattle.mm_base.specs.Places.{null}
 use Rattle.mm_base.specs.declared.place.DiskLoc.{DiskLoc}
 use Rattle.mm_btree.specs.Nodes.{Item, Node, Buckets, put, with_parent}
-use Rattle.mm_btree.specs.Lists.{has, Distinct, Sorted}
-use Rattle.mm_btree.specs.Trees.{Sub, Stands, Moves}
+use Rattle.mm_btree.specs.Lists.{has, Distinct, ins, Sorted, BeginsAbove}
+use Rattle.mm_btree.specs.Trees.{Sub, Stands, Moves, Became}
 
 -- the pair that goes up where a bucket is parted, and the place of the right part
 pub record Up : Type 0 where
@@ -41,6 +42,12 @@ abbrev pub least_at : ℕ → ℕ
 least_at zero = 0
 least_at (suc h) = 1
 
+-- where a pair would go: those before aren't greater, the one there is
+pub record IsPlace (lt : Item → Item → Bool) (ps : List Item) (x : Item) (i : ℕ) : Type 0 where
+  pub inside : i ≤ length ps
+  pub before : AllByRecursion (λ p. lt x p ≡ false) (take i ps)
+  pub behind : BeginsAbove lt x (drop i ps)
+
 -- the subtree at a place stands, with its pairs in order and no bucket twice
 pub record StandsAt (lt : Item → Item → Bool) (m : Buckets) (up : DiskLoc) (h : ℕ) (s : Sub) (at : DiskLoc) : Type 0 where
   pub here : s.at ≡ at
@@ -66,6 +73,11 @@ pub record IsSplit (b l : Node) (mid : Item) (r : Node) : Type 0 where
   pub right_parent : r.parent ≡ b.parent
   pub some : 1 ≤ length l.pairs
   pub more : 1 ≤ length r.pairs
+
+-- the pair is in the subtree, or in the two that it has become
+abbrev pub IsInserted : (Item → Item → Bool) → Buckets → Buckets → DiskLoc → ℕ → Item → DiskLoc → Option Up → Type 0
+IsInserted lt m n at h x up r =
+    (s : Sub) → StandsAt lt m up h s at → (ds : List Sub) × Became m n up h s.places (ins lt x s.pairs) (roots_of at r) (between_of r) ds
 
 -- A tree: a root without a parent, this high.
 abbrev pub IsTree : (Item → Item → Bool) → Buckets → DiskLoc → ℕ → Sub → Type 0
