@@ -10,3 +10,4 @@ pub mod Spelling
 pub mod Ordering
 pub mod Filling
 pub mod Parents
+pub mod Putting

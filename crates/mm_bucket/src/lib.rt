@@ -6,7 +6,8 @@
 //!   what is held.
 //! - `find` looks for a pair by halves, by the order of the index's specification and then by the record's place. It copies no key.
 //! - `insert_at`, `remove_at`, `split`, `merge`, `set_left`, `set_next` and `set_parent` are edits of what is held, each an equation;
-//!   `fits` says beforehand whether a key has room.
+//!   `fits` says beforehand whether a key has room. `put` puts a pair and the child behind it in, and parts the bucket where they have
+//!   no room.
 //! - `laws` has what follows of the definitions: bytes are one bucket at most, keys leave no gap, and the parent may be written alone.
 //!
 //! Not promised: that pairs stand in an order, which only `find` asks. In specs/, Pairs says what a bucket holds, Layout how bytes spell
@@ -17,6 +18,7 @@ mod bucket;
 mod builder;
 mod find;
 mod laws;
+mod put;
 mod reading;
 
 pub use bucket::{BUCKET_LEN, Bucket};
