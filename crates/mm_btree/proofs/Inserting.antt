@@ -1,14 +1,14 @@
 -- A pair is put into a subtree: at a leaf, and where the child that it belongs to has become one or two; and what a whole tree becomes.
 use Rattle.std.proofs.lemmas.Option.{get_or_from_slice_get}
 use Rattle.std.proofs.lemmas.List.{take-append-drop, length-map, length-append, get_or-map}
-use Rattle.std.proofs.Common.{◌≡◌, ◌≢◌, ℕ, zero, suc, ◌≤◌, Bool, true, false, List, [], ◌∷◌, ◌++◌, length, map, take, drop, get_or, insert, slice_get, Option, Some, None, IsSome, refl, sym, ap, ◌∙◌, subst, arith}
+use Rattle.std.proofs.Common.{◌≡◌, ◌≢◌, ℕ, zero, suc, ◌≤◌, Bool, true, List, [], ◌∷◌, ◌++◌, length, map, take, drop, get_or, insert, slice_get, Option, Some, None, IsSome, refl, sym, ap, ◌∙◌, subst, arith}
 use Rattle.std.specs.List.{AllByRecursion}
 use Rattle.mm_base.specs.Places.{null}
 use Rattle.mm_base.specs.declared.place.DiskLoc.{DiskLoc}
 use Rattle.mm_btree.specs.Nodes.{Item, Node, Buckets}
 use Rattle.mm_btree.specs.Changes.{Up, AreThere, IsSettled, StandsAt, least_at, roots_of, between_of, IsPlace, IsInserted, IsTree, IsChanged, rooted_map}
 use Rattle.mm_btree.specs.Lists.{weave, has, Distinct, ins, Sorted, Chains, Told}
-use Rattle.mm_btree.specs.Trees.{Sub, at_of, pairs_of, all_places, IsOver, AreBelow, Stands, Moves, Became, Pending, sub}
+use Rattle.mm_btree.specs.Trees.{Sub, at_of, pairs_of, IsOver, AreBelow, Stands, Moves, Became, Pending, sub}
 use Rattle.mm_btree.proofs.ListLaws.{ins-behind, ins-before}
 use Rattle.mm_btree.proofs.Frames.{all_some, roots_in}
 use Rattle.mm_btree.proofs.Segments.{settled, all_get, cut, Cut, child_sorted, child_apart, changed_below, ins_there, stays_above, kids_more}
