@@ -4,15 +4,16 @@ ghost use Rattle.std.specs.Prelude.{◌≡◌, ◌≢◌, ◌≤◌, ◌<◌, �
 ghost use Rattle.std.specs.List.{AllByRecursion};
 ghost use Rattle.mm_base.specs.Places.{null};
 ghost use Rattle.mm_base.specs.declared.place.DiskLoc.{DiskLoc};
-ghost use Rattle.mm_bucket.specs.Pairs.{Pair, Contents};
+ghost use Rattle.mm_bucket.specs.Pairs.{Pair, Contents, with_pair};
 ghost use Rattle.mm_bucket.specs.Rules.{children};
-ghost use Rattle.mm_btree.specs.Nodes.{Item, Node, Buckets};
+ghost use Rattle.mm_btree.specs.Nodes.{Item, Node, Buckets, item_of};
 ghost use Rattle.mm_btree.specs.Lists.{has, Distinct, ins, Sorted, Chains, Told};
 ghost use Rattle.mm_btree.specs.Trees.{Sub, at_of, all_places, IsOver, Stands, Moves, Became, Pending, sub, Changed, Thinned, Beside};
 ghost use Rattle.mm_btree.specs.Changes.{Up, IsSettled, roots_of, between_of, IsRejoined, roots_joined, between_joined, StandsAt, rooted_map};
 
 /// A bucket's children go with its pairs: one is put in or taken out with its pair, and they are parted where the pairs are, the child
-/// before the pair between being the last one of the left part.
+/// before the pair between being the last one of the left part. What `Bucket::put` makes has one pair and one child more, the child behind
+/// the pair.
 pub fn children_go_along()
     ensures inserted { (b : Contents) (i : ℕ) (p : Pair) → i ≤ length b.pairs
         → children (record b { pairs = insert b.pairs i p }) ≡ insert (children b) i p.left }
@@ -21,6 +22,10 @@ pub fn children_go_along()
     ensures parted { (up : DiskLoc) (ps qs : List Pair) (mid : Pair) (last : DiskLoc)
         → children (record { parent = up; pairs = ps ++ mid ∷ qs; next = last })
         ≡ children (record { parent = up; pairs = ps; next = mid.left }) ++ children (record { parent = up; pairs = qs; next = last }) }
+    ensures put { (b : Contents) (i : ℕ) (key : List ℕ) (rec after : DiskLoc) → i ≤ length b.pairs
+        → children (with_pair b i key rec after) ≡ insert (children b) (suc i) after }
+    ensures put_pairs { (b : Contents) (i : ℕ) (key : List ℕ) (rec after : DiskLoc) → i ≤ length b.pairs
+        → map item_of (with_pair b i key rec after).pairs ≡ insert (map item_of b.pairs) i (record { key = key; rec = rec }) }
 {}
 
 /// A subtree stands in any buckets that are the same at its places, and a bucket stands at each of them.
