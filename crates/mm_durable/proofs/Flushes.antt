@@ -1,6 +1,6 @@
 -- A database is flushed.
-use Rattle.std.proofs.Common.{◌≡◌, inl, inr, ℕ, zero, suc, ◌+◌, ◌-◌, ◌<◌, ◌≤◌, Bool, true, false, cond, List, [], ◌∷◌, ◌++◌, length, take, drop, set, get_or, Option, refl, sym, ◌∙◌, ap, subst, arith}
-use Rattle.std.specs.Prelude.{◌==◌, IsTrue}
+use Rattle.std.proofs.Common.{◌≡◌, inl, inr, ℕ, zero, suc, ◌+◌, ◌-◌, ◌<◌, ◌≤◌, true, false, cond, List, [], ◌∷◌, length, take, drop, set, get_or, Option, refl, sym, ◌∙◌, ap, subst, arith}
+use Rattle.std.specs.Prelude.{◌==◌}
 use Rattle.std.proofs.lemmas.Bool.{cases_eq}
 use Rattle.std.proofs.lemmas.Bool.Decides.{nat_tests}
 use Rattle.std.proofs.lemmas.List.{drop-drop, drop-take, get_or-set_same, get_or-set_other}
@@ -8,7 +8,6 @@ use Rattle.mm_outside.specs.Told.{Told}
 use Rattle.mm_outside.specs.Ask.{Ask, asked, Makes}
 use Rattle.mm_ranges.specs.declared.part.Part.{Part}
 use Rattle.mm_section.specs.declared.section.Section.{Section}
-use Rattle.mm_crash.specs.Overlay.{Entry}
 use Rattle.mm_crash.specs.Asks.{lay_asks}
 use Rattle.mm_crash.specs.Journal.{entries_of}
 use Rattle.mm_crash.specs.Story.{Story, run, own_entries}
@@ -19,7 +18,7 @@ use Rattle.mm_journal.specs.Tracks.{Tracks}
 use Rattle.mm_journal.proofs.Real.{the_format, the_names}
 use Rattle.mm_recover.specs.Laying.{AreNamed}
 use Rattle.mm_prefix.specs.Prefix.{Numbers}
-use Rattle.mm_durable.specs.Names.{db_of, has_name, AreDatabases, ArePartsOf, AreSectionsOf}
+use Rattle.mm_durable.specs.Names.{db_of, AreDatabases, ArePartsOf, AreSectionsOf}
 use Rattle.mm_durable.specs.Own.{own_of_sections, AreAllNamed}
 use Rattle.mm_durable.specs.Log.{IsSound, IsKept, Keeps, synced}
 use Rattle.mm_durable.specs.declared.log.Log.{Log}
@@ -32,12 +31,12 @@ at_place [] i d e lt = absurd (omega arith)
 at_place (x ∷ xs) zero d e lt = refl
 at_place (x ∷ xs) (suc i) d e lt = at_place xs i d e (omega (arith, lt))
 
-of_drop : (names : List (List ℕ)) (n : ℕ) (ss : List Section) → AreSectionsOf names ss → AreSectionsOf names (drop n ss)
+pub of_drop : (names : List (List ℕ)) (n : ℕ) (ss : List Section) → AreSectionsOf names ss → AreSectionsOf names (drop n ss)
 of_drop names zero ss of = of
 of_drop names (suc n) [] of = tt
 of_drop names (suc n) (s ∷ ss) of = of_drop names n ss of.1
 
-of_take : (names : List (List ℕ)) (n : ℕ) (ss : List Section) → AreSectionsOf names ss → AreSectionsOf names (take n ss)
+pub of_take : (names : List (List ℕ)) (n : ℕ) (ss : List Section) → AreSectionsOf names ss → AreSectionsOf names (take n ss)
 of_take names zero ss of = tt
 of_take names (suc n) [] of = tt
 of_take names (suc n) (s ∷ ss) of = (of.0, of_take names n ss of.1)
@@ -50,7 +49,7 @@ all_named names are (s ∷ ss) of = (parts s.parts of.0, all_named names are ss 
     parts [] of = tt
     parts (p ∷ ps) of = (named names are names are p.name of.0, parts ps of.1)
 
-names_are : the_names.disk_name ≡ disk_name
+pub names_are : the_names.disk_name ≡ disk_name
 unfolding the_names
 names_are = refl
 

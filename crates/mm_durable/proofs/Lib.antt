@@ -7,3 +7,6 @@ pub mod Begins
 pub mod Owning
 pub mod Own
 pub mod Flushes
+pub mod SyncRuns
+pub mod Syncs
+pub mod Least

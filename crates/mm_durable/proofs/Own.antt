@@ -1,5 +1,5 @@
 -- A database's part of what sections lay is what its own parts lay.
-use Rattle.std.proofs.Common.{◌≡◌, inl, inr, ℕ, zero, suc, ◌+◌, ◌<◌, Bool, true, false, cond, List, [], ◌∷◌, ◌++◌, length, get_or, map, filter, refl, sym, ◌∙◌, ap, subst, arith, append_assoc}
+use Rattle.std.proofs.Common.{◌≡◌, inl, inr, ℕ, zero, suc, ◌+◌, ◌<◌, Bool, true, false, cond, List, [], ◌∷◌, ◌++◌, length, get_or, map, refl, sym, ◌∙◌, ap, subst, arith, append_assoc}
 use mathlib.Core.Bool.{true≢false}
 use Rattle.std.specs.Prelude.{◌==◌, ◌&&◌, ◌||◌, nat_lt, nat_le, codes}
 use Rattle.std.specs.Fmt.{decimal}
@@ -18,7 +18,7 @@ use Rattle.mm_section.specs.declared.section.Section.{Section}
 use Rattle.mm_section.specs.Spells.{is_letter, is_db_name}
 use Rattle.mm_section.proofs.Limits.{both}
 use Rattle.mm_crash.specs.Overlay.{Entry}
-use Rattle.mm_crash.specs.Journal.{entries_of, entries_of_parts}
+use Rattle.mm_crash.specs.Journal.{entries_of}
 use Rattle.mm_crash.specs.Story.{own_entries}
 use Rattle.mm_crash.proofs.Overlay.{neither}
 use Rattle.mm_journal.specs.Real.{disk_name}
@@ -37,7 +37,7 @@ stem_front (b ∷ name) rest all =
     let parts = both (is_letter b) (list_all is_letter name) all in
     ap (λ (x : Bool). cond x [] (b ∷ stem (name ++ 0x2e ∷ rest))) (letter_no_stop b parts.0) ∙ ap (λ (l : List ℕ). b ∷ l) (stem_front name rest parts.1)
 
-letters : (name : List ℕ) → is_db_name name ≡ true → list_all is_letter name ≡ true
+pub letters : (name : List ℕ) → is_db_name name ≡ true → list_all is_letter name ≡ true
 letters name is = (both (nat_le (length name) 16) (list_all is_letter name) (both (nat_lt 0 (length name)) (nat_le (length name) 16 && list_all is_letter name) is).1).1
 
 pub stem_is : (name : List ℕ) (file : ℕ) → is_db_name name ≡ true → stem (disk_name name file) ≡ name
@@ -122,3 +122,26 @@ module _ (names : List (List ℕ)) (are : AreDatabases names) where
     pub own_sections : (ss : List Section) → AreSectionsOf names ss → own_entries (db_of names) d (entries_of disk_name ss) ≡ own_of_sections (get_or names d []) ss
     own_sections [] of = refl
     own_sections (s ∷ ss) of = filter-append (λ (e : Entry). db_of names e.file == d) (parts_entries s.parts) (entries_of disk_name ss) ∙ ap (λ (l : List Entry). l ++ own_entries (db_of names) d (entries_of disk_name ss)) (own_parts s.parts of.0) ∙ ap (λ (l : List Entry). own_of_parts (get_or names d []) s.parts ++ l) (own_sections ss of.1)
+
+  index_there : (ns : List (List ℕ)) (n : List ℕ) → has_name ns n ≡ true → index_of ns n < length ns
+  index_there [] n some = absurd (true≢false (sym some))
+  index_there (x ∷ xs) n some = by (index_there xs n) (eq_by_cmp name_cmp x n) some
+    where
+      by : (has_name xs n ≡ true → index_of xs n < length xs) → (b : Bool) → (b || has_name xs n) ≡ true → cond b 0 (1 + index_of xs n) < length (x ∷ xs)
+      by next true is = omega arith
+      by next false is = omega (arith, next is)
+
+  none_part : (p : Part) → has_name names p.name ≡ true → own_entries (db_of names) (length names) (part_entries p) ≡ []
+  none_part p some =
+      let lt : index_of names p.name < length names = index_there names p.name some in
+      let other : (index_of names p.name == length names) ≡ false = grind (arith, nat_tests) in
+      all_or_none (db_of names) (index_of names p.name) (length names) false other (part_entries p) (part_of p some)
+
+  none_parts : (ps : List Part) → ArePartsOf names ps → own_entries (db_of names) (length names) (parts_entries ps) ≡ []
+  none_parts [] of = refl
+  none_parts (p ∷ ps) of = filter-append (λ (e : Entry). db_of names e.file == length names) (part_entries p) (parts_entries ps) ∙ ap (λ (l : List Entry). l ++ own_entries (db_of names) (length names) (parts_entries ps)) (none_part p of.0) ∙ none_parts ps of.1
+
+  -- no section lays anything over files of no database
+  pub own_none : (ss : List Section) → AreSectionsOf names ss → own_entries (db_of names) (length names) (entries_of disk_name ss) ≡ []
+  own_none [] of = refl
+  own_none (s ∷ ss) of = filter-append (λ (e : Entry). db_of names e.file == length names) (parts_entries s.parts) (entries_of disk_name ss) ∙ ap (λ (l : List Entry). l ++ own_entries (db_of names) (length names) (entries_of disk_name ss)) (none_parts s.parts of.0) ∙ own_none ss of.1

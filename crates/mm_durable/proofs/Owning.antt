@@ -1,15 +1,12 @@
 -- What one database's parts lay, part by part and section by section.
-use Rattle.std.proofs.Common.{◌≡◌, ℕ, zero, suc, ◌<◌, Bool, true, false, cond, List, [], ◌∷◌, ◌++◌, length, get_or, Option, refl, sym, ap, subst, arith}
+use Rattle.std.proofs.Common.{◌≡◌, ℕ, zero, suc, ◌<◌, Bool, true, false, cond, List, [], ◌∷◌, ◌++◌, length, get_or, refl, sym, ap, subst, arith}
 use Rattle.std.specs.Ordering.{eq_by_cmp}
 use Rattle.mm_outside.specs.Image.{name_cmp}
-use Rattle.mm_outside.specs.Told.{Told}
-use Rattle.mm_outside.specs.Ask.{Makes, MakesSome}
 use Rattle.mm_ranges.specs.declared.part.Part.{Part}
 use Rattle.mm_section.specs.declared.section.Section.{Section}
 use Rattle.mm_crash.specs.Overlay.{Entry}
-use Rattle.mm_crash.specs.Asks.{lay_asks}
 use Rattle.mm_recover.specs.Laying.{part_entries, AreNamed}
-use Rattle.mm_recover.proofs.LayAsks.{all_entries, made_as, some_as}
+use Rattle.mm_recover.proofs.LayAsks.{all_entries}
 use Rattle.mm_durable.specs.Own.{own_of, own_of_parts, own_of_sections, AreAllNamed}
 
 -- whether the part is the database's

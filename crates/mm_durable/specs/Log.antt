@@ -1,5 +1,5 @@
 -- What the log is at all times, and the fact that its calls keep.
-use Rattle.std.specs.Prelude.{◌≡◌, ℕ, ◌+◌, ◌-◌, ◌<◌, ◌≤◌, ◌^◌, Bool, ◌&&◌, nat_lt, ◌==◌, length, drop, get_or, Option, Some, ◌⊎◌}
+use Rattle.std.specs.Prelude.{List, ◌≡◌, ℕ, ◌+◌, ◌-◌, ◌<◌, ◌≤◌, ◌^◌, Bool, ◌&&◌, nat_lt, ◌==◌, length, drop, get_or, Option, Some, ◌⊎◌}
 use Rattle.mm_outside.specs.Told.{Told}
 use Rattle.mm_outside.specs.Leaves.{Leaves}
 use Rattle.mm_jfiles.specs.Files.{next_number}
@@ -28,6 +28,16 @@ is_marked log = log.mark == synced log && synced log == sealed log
 
 abbrev pub numbers : Log → Numbers
 numbers log = record { mark = log.mark; floor = log.floor; synced = length log.receipts.items }
+
+-- the greatest number that none of these is below
+pub record IsLeast (n : ℕ) (xs : List ℕ) (one : ℕ) : Type 0 where
+  pub low : (i : ℕ) → i < length xs → n ≤ get_or xs i 0
+  pub most : n ≤ one
+  pub greatest : (m : ℕ) → m ≤ one → ((i : ℕ) → i < length xs → m ≤ get_or xs i 0) → m ≤ n
+
+-- the greatest number of sections that are synced and that each database is flushed to
+abbrev pub IsFloor : ℕ → Log → Type 0
+IsFloor n log = IsLeast n log.flushed.items (synced log)
 
 -- whatever the disk tells
 pub record IsSound (log : Log) : Type 0 where

@@ -1,8 +1,10 @@
 -- Which database a data file is of.
-use Rattle.std.specs.Prelude.{◌≡◌, ℕ, ◌+◌, Bool, true, false, ◌||◌, ◌==◌, if◌then◌else◌, IsTrue, List, [], ◌∷◌}
+use Rattle.std.specs.Prelude.{◌≡◌, ℕ, ◌+◌, Bool, true, false, ◌||◌, ◌==◌, if◌then◌else◌, IsTrue, List, [], ◌∷◌, ◌++◌, map}
 use Rattle.std.specs.Ordering.{eq_by_cmp}
 use Rattle.mm_outside.specs.Image.{name_cmp}
 use Rattle.mm_ranges.specs.declared.part.Part.{Part}
+use Rattle.mm_ranges.specs.Limits.{ns_file}
+use Rattle.mm_journal.specs.Real.{disk_name}
 use Rattle.mm_section.specs.Spells.{is_db_name}
 use Rattle.mm_section.specs.declared.section.Section.{Section}
 
@@ -38,3 +40,15 @@ ArePartsOf names (part ∷ parts) = (has_name names part.name ≡ true) × ArePa
 abbrev pub AreSectionsOf : List (List ℕ) → List Section → Type 0
 AreSectionsOf names [] = Unit {0}
 AreSectionsOf names (section ∷ sections) = ArePartsOf names section.parts × AreSectionsOf names sections
+
+-- the files of a database that have these numbers
+abbrev pub names_of : List ℕ → List ℕ → List (List ℕ)
+names_of name files = map (disk_name name) files
+
+-- the files that a database may have: the name file, and eight data files
+abbrev pub files_of : List ℕ → List (List ℕ)
+files_of name = names_of name (ns_file ∷ 0 ∷ 1 ∷ 2 ∷ 3 ∷ 4 ∷ 5 ∷ 6 ∷ 7 ∷ [])
+
+abbrev pub all_files : List (List ℕ) → List (List ℕ)
+all_files [] = []
+all_files (name ∷ names) = files_of name ++ all_files names

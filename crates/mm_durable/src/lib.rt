@@ -7,5 +7,10 @@
 #![tactic(auto)]
 
 mod flushing;
+mod laws;
 mod log;
 mod spelling;
+mod syncing;
+
+pub use laws::crashes_leave_a_prefix;
+pub use log::{Log, Receipt};

@@ -3,9 +3,11 @@
 ghost use Rattle.std.specs.Prelude.{◌≡◌, ◌+◌, ◌<◌, ◌≤◌, ◌^◌, length, IfOk, OnOk, OnErr, true, false, vec_capacity};
 ghost use Rattle.mm_outside.specs.declared.disk.Device.TheVariants.{Fault};
 ghost use Rattle.mm_outside.specs.Fault.{HasCause};
+ghost use Rattle.mm_durable.specs.Log.{IsLeast};
 
 use crate::flushing::lay_sections;
 use crate::spelling::spell;
+use crate::syncing::sync_databases;
 use mm_base::{Name, NoMemory};
 use mm_jfiles::{JFiles, write_mark};
 use mm_outside::{Device, Disk};
@@ -50,7 +52,7 @@ impl Log {
     ghost use Rattle.mm_journal.proofs.Real.{the_format, the_names};
     ghost use Rattle.mm_prefix.specs.Prefix.{Numbers, at_first};
     ghost use Rattle.mm_durable.specs.Names.{AreDatabases, ArePartsOf};
-    ghost use Rattle.mm_durable.specs.Log.{IsSound, IsKept, Keeps, Leaving, HasReceipt, HasNoReceipt, sealed, synced, has_pending, is_marked};
+    ghost use Rattle.mm_durable.specs.Log.{IsFloor, IsSound, IsKept, Keeps, Leaving, HasReceipt, HasNoReceipt, sealed, synced, has_pending, is_marked};
 
     /// A run that has no section yet, over a disk that was recovered, with this number in its lsn file.
     pub fn start(alloc: Global, names: Vec<Name>, limit: u64, last: u64) -> Result<Log, NoMemory>
@@ -107,6 +109,13 @@ impl Log {
         ensures { result ≡ sealed self.now }
     {
         self.dropped + self.sections.as_slice().len()
+    }
+
+    /// The names of the databases.
+    pub fn names(&self) -> &[Name]
+        ensures { result.now ≡ self.now.names.items }
+    {
+        &self.names
     }
 
     /// The number of the last synced section, or of the one before the run's first.
@@ -212,6 +221,27 @@ impl Log {
         Ok(())
     }
 
+    // The least number of flushed sections of any database, or that of synced ones.
+    fn least_flushed(&self) -> usize
+        ensures { IsFloor result self.now }
+    {
+        least(&self.flushed, self.synced_count())
+    }
+
+    /// Syncs each file that a database may have. The floor is then the greatest number up to which each database is flushed.
+    pub fn sync_data<D: Disk>(&mut self, disk: &mut D) -> Result<(), Device>
+        requires sound { IsSound self.old }
+        ensures floor { OnOk result (IsFloor self.new.floor self.old) }
+        ensures sound { OnOk result (IsSound self.new) }
+        ensures kept { OnOk result (Keeps self.old self.new (D.told disk.old) (D.told disk.new)) }
+        ensures left { OnErr result (Leaving self.old (D.told disk.old) (D.told disk.new)) }
+        ensures cause { HasCause Fault (D.faults disk.old) (D.faults disk.new) result }
+    {
+        sync_databases(self.alloc, disk, &self.names)?;
+        self.floor = self.least_flushed();
+        Ok(())
+    }
+
     /// Writes the floor's number into the lsn file and syncs it, where it isn't there yet.
     pub fn mark_lsn<D: Disk>(&mut self, disk: &mut D) -> Result<(), Device>
         requires sound { IsSound self.old }
@@ -251,4 +281,17 @@ impl Log {
         self.journal.clear(disk)?;
         Ok(())
     }
+}
+
+// The least of these, and of one more.
+fn least(numbers: &[usize], one: usize) -> usize
+    ensures { IsLeast result numbers.now one }
+{
+    let mut least = one;
+    for number in numbers {
+        if *number < least {
+            least = *number;
+        }
+    }
+    least
 }

@@ -1,7 +1,7 @@
-use Rattle.std.proofs.Common.{◌≡◌, ℕ, List, [], sym, ◌∙◌, ap, true, false}
+use Rattle.std.proofs.Common.{ℕ, List, [], sym, ◌∙◌, ap}
 use Rattle.std.specs.Ordering.{eq_by_cmp}
 use Rattle.mm_outside.specs.Image.{name_cmp}
-use Rattle.mm_jfiles.proofs.Asking.{some_before, some_all}
+use Rattle.mm_jfiles.proofs.Asking.{some_before}
 use Rattle.mm_recover.proofs.LayAsks.{some_as}
 use Rattle.mm_durable.proofs.Owning.{own_is, own_isnt}
 use Rattle.mm_durable.proofs.flushing.lay_own.Goals as goal

@@ -1,8 +1,4 @@
-use Rattle.std.proofs.Common.{◌≡◌, ℕ, List, Option, arith, ap, sym, subst}
-use Rattle.mm_outside.specs.Told.{Told}
-use Rattle.mm_outside.specs.Ask.{Makes, MakesSome}
-use Rattle.mm_ranges.specs.declared.part.Part.{Part}
-use Rattle.mm_crash.specs.Asks.{lay_asks}
+use Rattle.std.proofs.Common.{arith, ap, sym, subst}
 use Rattle.mm_jfiles.proofs.Asking.{some_all}
 use Rattle.mm_recover.specs.Laying.{AreNamed}
 use Rattle.mm_recover.proofs.LayAsks.{laid_next, laid_cut, laid_done, made_as, some_as}

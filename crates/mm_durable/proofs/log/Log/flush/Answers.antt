@@ -1,6 +1,4 @@
-use Rattle.std.proofs.Common.{◌≡◌, refl, ◌-◌, ◌+◌, ◌<◌, ◌≤◌, length, ◌∙◌, ap, arith, get_or, ℕ, List, [], sym}
-use Rattle.mm_crash.specs.Overlay.{Entry}
-use Rattle.mm_crash.specs.Asks.{lay_asks}
+use Rattle.std.proofs.Common.{◌≡◌, refl, ◌-◌, ◌+◌, ◌<◌, ◌≤◌, length, ◌∙◌, ap, arith, get_or, ℕ, List, []}
 use Rattle.mm_section.specs.declared.section.Section.{Section}
 use Rattle.mm_recover.proofs.LayAsks.{some_as, made_as}
 use Rattle.mm_durable.specs.Log.{IsSound, synced}

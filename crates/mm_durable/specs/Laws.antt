@@ -1,0 +1,32 @@
+-- What a crash leaves of a run at each moment since its start.
+use Rattle.std.specs.Prelude.{ℕ, ◌<◌, List, length, get_or}
+use Rattle.mm_outside.specs.Image.{Image}
+use Rattle.mm_outside.specs.Told.{Told, Left}
+use Rattle.mm_outside.specs.Place.{at_moment}
+use Rattle.mm_crash.specs.Chance.{NoChance}
+use Rattle.mm_crash.specs.Story.{Story}
+use Rattle.mm_journal.proofs.Real.{the_format, the_names}
+use Rattle.mm_prefix.specs.Prefix.{Numbers, IsPrefix}
+use Rattle.mm_prefix.specs.Chain.{AreLeft, last_image, HasPrefix, HoldsSection}
+use Rattle.mm_durable.specs.Log.{IsKept, synced}
+use Rattle.mm_durable.specs.declared.log.Log.{Log}
+
+-- a crash at this moment of the run leaves this image, without a chance match
+pub record IsLeft (t u : Told) (m : ℕ) (image : Image) : Type 0 where
+  pub since : length t.calls < m
+  pub left : Left u m image
+  pub chance : NoChance the_format the_names (at_moment u m) image
+
+-- the image itself, with the numbers of that moment
+abbrev pub EachMomentIsPrefix : Log → Type 0
+EachMomentIsPrefix log = (t u : Told) (story : Story) (history : ℕ → Numbers) → IsKept t story history log u → (m : ℕ) (image : Image) → IsLeft t u m image → IsPrefix the_format the_names story (history m) image
+
+-- what its recovery has, also after crashes within recoveries
+abbrev pub RecoversPrefix : Log → Type 0
+RecoversPrefix log = (t u : Told) (story : Story) (history : ℕ → Numbers) → IsKept t story history log u → (m : ℕ) (image : Image) → IsLeft t u m image → (images : List Image) → AreLeft the_format the_names image images
+    → HasPrefix the_format the_names story (history m).synced (last_image image images)
+
+-- that it has each section whose receipt is of an earlier moment. Sections are counted from the first of the run, which is 0.
+abbrev pub HoldsAcknowledged : Log → Type 0
+HoldsAcknowledged log = (t u : Told) (story : Story) (history : ℕ → Numbers) → IsKept t story history log u → (n : ℕ) → n < synced log → (m : ℕ) (image : Image) → get_or log.receipts.items n 0 < m → IsLeft t u m image → (images : List Image) → AreLeft the_format the_names image images
+    → HoldsSection the_format the_names story n (last_image image images)
