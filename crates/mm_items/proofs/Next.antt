@@ -28,7 +28,7 @@ get-put image file bytes q = get-insert nat_cmp_total image file bytes q ∙ ap 
 -- ---- one list of entries behind another
 
 -- no entry is of the file
-abbrev has_own : List ℕ → List Entry → Bool
+abbrev pub has_own : List ℕ → List Entry → Bool
 has_own q [] = false
 has_own q (e ∷ entries) = is_own q e || has_own q entries
 
@@ -53,7 +53,7 @@ made_both q [] b x y = y
 made_both q (e ∷ a) b x y = let parts = Rattle.mm_crash.proofs.Overlay.neither (is_own q e && makes e.act) (is_made q a) x in none_of _ _ parts.0 (made_both q a b parts.1 y)
 
 -- an entry stands before none that makes its file, within the first and from there to the second
-once_both : (q : List ℕ) (a b : List Entry) → IsMadeOnce q a → IsMadeOnce q b → (is_made q b ≡ true → has_own q a ≡ false) → IsMadeOnce q (a ++ b)
+pub once_both : (q : List ℕ) (a b : List Entry) → IsMadeOnce q a → IsMadeOnce q b → (is_made q b ≡ true → has_own q a ≡ false) → IsMadeOnce q (a ++ b)
 once_both q [] b x y apart = y
 once_both q (e ∷ a) b x y apart = (here, once_both q a b x.1 y (λ made. (Rattle.mm_crash.proofs.Overlay.neither (is_own q e) (has_own q a) (apart made)).1))
   where
