@@ -10,3 +10,4 @@ pub mod Flushes
 pub mod SyncRuns
 pub mod Syncs
 pub mod Least
+pub mod Nexts
