@@ -1,8 +1,9 @@
 -- What a recovery has done at each of its exits.
-use Rattle.std.proofs.Common.{◌≡◌, ◌≢◌, ◌⊎◌, inl, inr, ℕ, true, List, [], ◌∷◌, ◌++◌, map, String, string_bytes, Option, Some, None, refl, sym, ◌∙◌, ap, subst}
+use Rattle.std.proofs.Common.{◌≡◌, ◌≢◌, ◌⊎◌, inl, inr, ℕ, ◌^◌, true, List, [], ◌∷◌, ◌++◌, map, String, string_bytes, Option, Some, None, refl, sym, ◌∙◌, ap, subst, arith}
 use Rattle.std.specs.declared.alloc.Global.{Global}
 use Rattle.std.specs.Prelude.{unwrap_or}
 use Rattle.std.specs.FinMap.{get, keys}
+use Rattle.std.proofs.lemmas.Bool.{cases_lt}
 use Rattle.mm_outside.specs.Image.{Image}
 use Rattle.mm_outside.specs.Told.{Change, Told, called, image_of, IfTold, Creates, Writes, Resizes, Syncs}
 use Rattle.mm_outside.specs.Crash.{file_after}
@@ -12,8 +13,8 @@ use Rattle.mm_outside.proofs.Places.{place_here}
 use Rattle.mm_outside.proofs.Cuts.{asked-append, cut_before, cut_all, spared_asked}
 use Rattle.mm_section.specs.declared.section.Section.{Section}
 use Rattle.mm_crash.specs.Overlay.{over}
-use Rattle.mm_crash.specs.Journal.{above, entries_of}
-use Rattle.mm_crash.specs.Recovered.{IsData, Files, Recovers}
+use Rattle.mm_crash.specs.Journal.{AllCan, above, entries_of}
+use Rattle.mm_crash.specs.Recovered.{IsData, Files, Recovers, journal_of}
 use Rattle.mm_crash.specs.Chance.{RecoversAt}
 use Rattle.mm_crash.specs.Rest.{IsRecovered}
 use Rattle.mm_crash.specs.Asks.{lay_asks, sync_asks, mark_asks, remove_asks}
@@ -26,6 +27,8 @@ use Rattle.mm_recover.specs.declared.replaying.Recovered.{Recovered}
 use Rattle.mm_recover.specs.Touched.{AreTouched}
 use Rattle.mm_recover.specs.Recovering.{settle_asks, settled, Settles, SettlesSome, ReadsLog, IsFaultOf, IsOfDevice, newer_of, laid_by, last_number, replay_asks, Replays, OnlySettled, EndsRecovered, KeepsRecovery, KeepsSettled}
 use Rattle.mm_recover.proofs.Settling.{image_synced, settled_clean, clean_settles, leaves_syncs, told_early, leaves_joined}
+use Rattle.mm_recover.proofs.Cleared.{laid_data, over_other, removed}
+use Rattle.mm_recover.proofs.FileNumbers.{journal_past, journal_below, below, past}
 use Rattle.mm_recover.proofs.Replays.{Matches, matches, replay_cut, replay_done}
 
 -- ---- after the first syncs, or some of them
@@ -142,6 +145,23 @@ module _ (s : Told) (lsn : Option ℕ) (ns : List ℕ) (sections : List Section)
       ∙ ap (λ (p : Place). p.file) (spared_asked removals the_names.lsn u2 (spares_removals the_names.lsn ns (λ n e. the_names.apart n (sym e))))
       ∙ mark_reads the_names.lsn the_format.size (the_format.number number) u1 (the_format.sized number)
 
+  at_first : AllCan the_format sections → (n : ℕ) → (place_of u2 (the_names.journal n)).file ≡ get (image_of s) (the_names.journal n)
+  at_first can n =
+      ap (λ (p : Place). p.file) (spared_asked marks (the_names.journal n) u1 (spares_marks (the_names.journal n) the_format.size (the_format.number number) (the_names.apart n)))
+      ∙ synced_reads names (the_names.journal n) (asked laying s)
+      ∙ laid_reads (laid_by lsn sections) (the_names.journal n) s
+      ∙ over_other (laid_by lsn sections) n (get (image_of s) (the_names.journal n)) (laid_data (unwrap_or lsn 0) sections can)
+
+  pub reads_none : AllCan the_format sections → ReadsLog (image_of s) lsn ns sections → (n : ℕ) → journal_of the_names (image_of (asked asks s)) n ≡ None
+  reads_none can log n = elim (cases_lt n (2 ^ 32)) [
+    | inr le ↦ journal_past (image_of (asked asks s)) n (past n le)
+    | inl lt ↦
+        let first = at_first can n ∙ sym (journal_below (image_of s) n (below n lt)) in
+        let gone = removed (journal_of the_names (image_of s)) 0 log.journal.runs u2 n log.journal.has (omega arith) first in
+        let all = subst (λ (l : List ℕ). (place_of (asked (remove_asks the_names l) u2) (the_names.journal n)).file ≡ None) log.journal.numbers_are gone in
+        journal_below (image_of (asked asks s)) n (below n lt) ∙ ap (λ (t : Told). get (image_of t) (the_names.journal n)) parts ∙ all
+  ]
+
 -- ---- the last exit
 
 module _ (old mid now new : Option Told) (all : List (List ℕ)) (lsn : Option ℕ) (ns : List ℕ) (sections : List Section) (names : List (List ℕ)) (settles : Settles old mid) (same : now ≡ mid) (named : IfTold old (λ t. all ≡ keys (image_of t))) (reads : IfTold mid (λ t. all ≡ keys (image_of t) → ReadsLog (image_of t) lsn ns sections)) where
@@ -186,8 +206,8 @@ module _ (old mid now new : Option Told) (all : List (List ℕ)) (lsn : Option �
       subst (λ n. IsRecovered the_format the_names files n (asked calls (settled t))) (sym last) (replay_done files (settled t) lsn ns sections names touched (settled_clean t can) (matched files t is w)),
     )
 
-  pub replays_all : (r : Recovered) → r.last ≡ last_number lsn sections → r.replayed ≡ Rattle.std.proofs.Common.length (newer_of lsn sections) → Makes calls now new → Replays r old new
-  replays_all r last replayed made = λ t is. (
+  pub replays_all : AllCan the_format sections → (r : Recovered) → r.last ≡ last_number lsn sections → r.replayed ≡ Rattle.std.proofs.Common.length (newer_of lsn sections) → Makes calls now new → Replays r old new
+  replays_all can r last replayed made = λ t is. (
     asked calls (settled t),
     made (settled t) (now_is t is),
     record {
@@ -198,6 +218,7 @@ module _ (old mid now new : Option Told) (all : List (List ℕ)) (lsn : Option �
       last = last;
       replayed = replayed;
       files = λ file data_file. reads_files (settled t) lsn ns sections names file data_file ∙ ap (λ (i : Image). over (laid_by lsn sections) file (get i file)) (same_read t);
+      cleared = reads_none (settled t) lsn ns sections names can (log_settled t is);
       marked = reads_mark (settled t) lsn ns sections names ∙ ap (λ n. Some (the_format.number n)) (sym last);
     },
   )

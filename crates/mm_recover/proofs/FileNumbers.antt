@@ -42,10 +42,10 @@ same_no k n ne = by (nat_lt k n) (k == n) (grind (arith, nat_tests))
 one_number : (m n : ℕ) → m < 2 ^ 32 → n < 2 ^ 32 → journal_name m ≡ journal_name n → m ≡ n
 one_number m n lt gt e = the_names.one m n (speaks.journal m lt ∙ e ∙ sym (speaks.journal n gt))
 
-below : (n : ℕ) → n < 2 ^ 32 → nat_lt n (2 ^ 32) ≡ true
+pub below : (n : ℕ) → n < 2 ^ 32 → nat_lt n (2 ^ 32) ≡ true
 below n lt = grind (arith, nat_tests)
 
-past : (n : ℕ) → 2 ^ 32 ≤ n → nat_lt n (2 ^ 32) ≡ false
+pub past : (n : ℕ) → 2 ^ 32 ≤ n → nat_lt n (2 ^ 32) ≡ false
 past n le = grind (arith, nat_tests)
 
 -- the number of this name, and no other
@@ -176,11 +176,11 @@ any_some (name ∷ names) n e =
     let one : is_number_of name n ≡ eq_by_cmp name_cmp (journal_name n) name = ap (λ (b : Bool). b && eq_by_cmp name_cmp (journal_name n) name) e in
     ap (λ (b : Bool). b || has_number names n) one ∙ ap (λ (b : Bool). eq_by_cmp name_cmp (journal_name n) name || b) (any_some names n e)
 
-journal_past : (image : Image) (n : ℕ) → nat_lt n (2 ^ 32) ≡ false → journal_of the_names image n ≡ None
+pub journal_past : (image : Image) (n : ℕ) → nat_lt n (2 ^ 32) ≡ false → journal_of the_names image n ≡ None
 unfolding the_names
 journal_past image n e = ap (λ (b : Bool). cond b (get image (the_names.journal n)) None) e
 
-journal_below : (image : Image) (n : ℕ) → nat_lt n (2 ^ 32) ≡ true → journal_of the_names image n ≡ get image (the_names.journal n)
+pub journal_below : (image : Image) (n : ℕ) → nat_lt n (2 ^ 32) ≡ true → journal_of the_names image n ≡ get image (the_names.journal n)
 unfolding the_names
 journal_below image n e = ap (λ (b : Bool). cond b (get image (the_names.journal n)) None) e
 

@@ -14,3 +14,4 @@ pub mod TouchedNames
 pub mod Counted
 pub mod Replayed
 pub mod Depth
+pub mod Cleared

@@ -96,6 +96,7 @@ pub record IsReplayed (r : Recovered) (t u : Told) : Type 0 where
   pub replayed : r.replayed ≡ length (newer_of lsn sections)
   pub files : (file : List ℕ) → IsData the_names file → get (image_of u) file ≡ over (laid_by lsn sections) file (get (image_of t) file)
   pub marked : get (image_of u) the_names.lsn ≡ Some (the_format.number r.last)
+  pub cleared : (n : ℕ) → journal_of the_names (image_of u) n ≡ None
 
 abbrev pub Replays : Recovered → Option Told → Option Told → Type 0
 Replays r old new = (t : Told) → old ≡ Some t → (u : Told) × (new ≡ Some u) × IsReplayed r t u

@@ -62,5 +62,4 @@ pub fn recover<D: Disk>(alloc: Global, disk: &mut D) -> Result<Recovered, Recove
 /// A law: a whole image is whole after any number of crashes within recoveries, with the same recovered files. It does nothing.
 pub fn any_depth()
     ensures { RecoversAtAnyDepth }
-{
-}
+{}

@@ -58,7 +58,7 @@ returns-in_err-names-2-clause-unwritten g c = let p = err_from_is_err_and c.from
 pub returns-clause-replays : goal.returns-clause-replays
 returns-clause-replays g c =
     let log = c.in_ok-log.log in
-    on_and c.replay.result _ _ _ _ (λ r made last replayed. replays_all _ _ _ _ (map string_bytes c.deref.result.now) log.lsn log.numbers.items log.sections.items (map string_bytes c.deref-3.result.now) c.in_ok-names.ensures.made c.in_ok-log.ensures.told (λ t is. ap (map string_bytes) c.deref.ensures.value ∙ c.in_ok-names.ensures.names t is) c.in_ok-log.ensures.reads r last replayed made)
+    on_and c.replay.result _ _ _ _ (λ r made last replayed. replays_all _ _ _ _ (map string_bytes c.deref.result.now) log.lsn log.numbers.items log.sections.items (map string_bytes c.deref-3.result.now) c.in_ok-names.ensures.made c.in_ok-log.ensures.told (λ t is. ap (map string_bytes) c.deref.ensures.value ∙ c.in_ok-names.ensures.names t is) c.in_ok-log.ensures.reads c.in_ok-log.ensures.can r last replayed made)
     c.replay.ensures.made c.replay.ensures.last c.replay.ensures.replayed
 
 pub returns-clause-recovered : goal.returns-clause-recovered
