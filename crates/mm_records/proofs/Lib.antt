@@ -37,6 +37,8 @@ pub mod Records
 pub mod Paying
 pub mod Extended
 pub mod ExtendedStands
-pub mod DetailsLong
 pub mod ExtendSteps
 pub mod LinkSteps
+pub mod Allocs
+pub mod Askings
+pub mod DetailsLong

@@ -11,3 +11,5 @@ pub mod Taking
 pub mod Shortening
 pub mod Adding
 pub mod Extending
+pub mod Asking
+pub mod Allocating

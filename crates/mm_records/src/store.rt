@@ -1,6 +1,6 @@
 //! The records of one namespace, as a map from places to payloads.
 
-ghost use Rattle.std.specs.Prelude.{◌≡◌, ℕ, ◌+◌, ◌≤◌, ◌++◌, ◌↔◌, List, length, IfOk, OnOk, OnErr, IsTrue, true, false};
+ghost use Rattle.std.specs.Prelude.{◌≡◌, ℕ, ◌+◌, ◌≤◌, ◌++◌, ◌↔◌, List, length, IfOk, OnOk, OnErr, IsErrOf, IsTrue, true, false};
 ghost use Rattle.mm_base.specs.Bytes.{overwritten};
 ghost use Rattle.mm_nstable.specs.Nodes.{SameNames};
 ghost use Rattle.std.specs.Option.{option_map};
@@ -9,15 +9,23 @@ ghost use Rattle.mm_extents.specs.Changes.{DeclaresAtMost, loc};
 ghost use Rattle.mm_records.specs.Constants.{SameConstants};
 ghost use Rattle.mm_records.specs.Shape.{Shape};
 ghost use Rattle.mm_records.specs.Stands.{Stands, IsNode, ns_in, walk};
+ghost use Rattle.mm_records.specs.Asking.{IsAsked, NoFit};
+ghost use Rattle.mm_records.specs.Allocating.{IsAllocated};
+ghost use Rattle.mm_records.specs.declared.asking.Request.TheVariants.{Bucket};
 ghost use Rattle.mm_records.specs.Map.{HasRecord, IsFreed, IsRewritten, name_at};
 
+use crate::allocating::add_record;
+use crate::asking::{Request, asked_len};
 use crate::freeing::free_at;
 use crate::rooms::{overwrite_room, push_bytes, room_len};
 use crate::walking::{first_from, next_of};
 use mm_base::{DiskLoc, NoMemory};
-use mm_extents::spot_of;
+use mm_extents::{SpaceFault, spot_of};
 use mm_nstable::details;
 use mm_views::Draft;
+
+// No file has more bytes.
+const MAX_PAYLOAD_LEN: usize = 67_108_864;
 
 /// The records of the namespace of a node.
 #[derive(Clone, Copy, Debug, PartialEq, Eq)]
@@ -31,6 +39,37 @@ impl RecordStore {
         ensures { result ≡ record { node = node } }
     {
         RecordStore { node }
+    }
+
+    /// Takes a place for a payload and writes it there: the map has one more pair, at a place that no map had. `request` says what the block is
+    /// asked for; a bucket has at most 8192 bytes. `NoSpace` exactly where the payload fits nowhere; after an error the draft is to be dropped.
+    pub fn alloc(
+        &self,
+        draft: &mut Draft,
+        request: Request,
+        payload: &[u8],
+    ) -> Result<DiskLoc, SpaceFault>
+        requires bucket { request ≡ Bucket → length payload.now ≤ 8192 }
+        requires stands { (free : List ℕ) × ((s : Shape) × (Stands draft.old.image free s × IsNode draft.old.image free self.now.node)) }
+        ensures ok { IfOk result (λ at. (free : List ℕ) (s : Shape) (r : ℕ) → Stands draft.old.image free s → IsNode draft.old.image free self.now.node → IsAsked request (length payload.now) r
+            → (t : Shape) × (Stands draft.new.image free t × ((p : Place) × ((at ≡ loc p) × IsAllocated s t free (name_at draft.old.image self.now.node) p r payload.now)))) }
+        ensures full { IsErrOf result SpaceFault.NoSpace → (free : List ℕ) (s : Shape) (r : ℕ) → Stands draft.old.image free s → IsNode draft.old.image free self.now.node → IsAsked request (length payload.now) r
+            → NoFit draft.old.image s free (name_at draft.old.image self.now.node) r }
+        ensures space { OnOk result ((free : List ℕ) (s : Shape) (r : ℕ) → Stands draft.old.image free s → IsNode draft.old.image free self.now.node → IsAsked request (length payload.now) r
+            → NoFit draft.old.image s free (name_at draft.old.image self.now.node) r → ⊥) }
+        ensures constants { OnOk result (SameConstants (ns_in draft.old.image) (ns_in draft.new.image)) }
+        ensures names { OnOk result (SameNames (ns_in draft.old.image) (ns_in draft.new.image)) }
+        ensures weight { DeclaresAtMost (length payload.now + 2512) draft.old draft.new }
+    {
+        if payload.len() > MAX_PAYLOAD_LEN {
+            return Err(SpaceFault::NoSpace);
+        }
+        add_record(
+            draft,
+            self.node,
+            asked_len(request, payload.len() as u32),
+            payload,
+        )
     }
 
     /// Takes a record out of the map. Its block heads the list of deleted blocks of its length.
