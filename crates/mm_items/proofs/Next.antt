@@ -153,11 +153,13 @@ module _ (name : List ℕ → ℕ → List ℕ) (n : List ℕ) (f : ℕ) (same :
   made_once [] all rising = tt
   made_once (m ∷ ms) all rising =
       let parts = and_parts (may_be_made m) (list_all may_be_made ms) all in
-      let order = and_parts (is_lowest m ms) (is_rising ms) rising in
-      ((λ own.
-          let test : (f == m.file) ≡ true = sym (same m.file (made_file m parts.0)) ∙ own in
-          let is : f ≡ m.file = grind (arith, nat_tests) in
-          later_made ms (m.file + 1) parts.1 (omega (arith, is)) order.1 (λ k rest e. above m ms k rest e order.0)), made_once ms parts.1 order.1)
+      let order = and_parts (is_lowest m ms) (is_rising ms) rising in (
+        (λ own.
+            let test : (f == m.file) ≡ true = sym (same m.file (made_file m parts.0)) ∙ own in
+            let is : f ≡ m.file = grind (arith, nat_tests) in
+            later_made ms (m.file + 1) parts.1 (omega (arith, is)) order.1 (λ k rest e. above m ms k rest e order.0)),
+        made_once ms parts.1 order.1,
+      )
     where
       above : (x : Made) (xs : List Made) (k : Made) (rest : List Made) → xs ≡ k ∷ rest → is_lowest x xs ≡ true → x.file + 1 ≤ k.file
       above x xs k rest e low = let test : nat_lt x.file k.file ≡ true = sym (ap (is_lowest x) e) ∙ low in let lt_k : x.file < k.file = grind (arith, nat_tests) in omega (arith, lt_k)
@@ -189,7 +191,7 @@ module _ (name : List ℕ → ℕ → List ℕ) (n : List ℕ) (f : ℕ) (same :
 
     entries_new : is_made q entries ≡ true → has_own q before ≡ false
     entries_new some =
-        let isnt : is_made q (map make_of made) ≡ true = elim (cases_Bool (is_made q (map make_of made))) [ | inl is ↦ is | inr none ↦ absurd (true≢false (sym some ∙ made_both q (map make_of made) (map put_of pieces) none (pieces_make_none pieces))) ] in
+        let isnt : is_made q (map make_of made) ≡ true = elim (cases_Bool (is_made q (map make_of made))) [ inl is ↦ is | inr none ↦ absurd (true≢false (sym some ∙ made_both q (map make_of made) (map put_of pieces) none (pieces_make_none pieces))) ] in
         absent_still q before base (reads ∙ fits.new_files f (made_there made fits.allowed isnt))
 
     made_size : size_then q (map make_of made) (size (get image f)) ≡ size (get (ranges.with_made made image) f)

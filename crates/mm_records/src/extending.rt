@@ -43,12 +43,7 @@ fn link_last(draft: &mut Draft, last: DiskLoc, next: DiskLoc) -> Result<(), NoMe
 }
 
 // Links an extent behind the last one, and its block before the head of a list.
-fn link_extent(
-    draft: &mut Draft,
-    last: DiskLoc,
-    at: Spot,
-    head: DiskLoc,
-) -> Result<(), NoMemory>
+fn link_extent(draft: &mut Draft, last: DiskLoc, at: Spot, head: DiskLoc) -> Result<(), NoMemory>
     requires can { (o : Option Place) × ((last ≡ loc_or o) × CanLink draft.old.image o (at.file, at.ofs)) }
     requires ofs { at.ofs < 67108864 }
     ensures heap { OnOk result ((o : Option Place) (heap : Heap) → last ≡ loc_or o → LowOr o → IsHeap draft.old.image heap → ExtentOr heap o → HasExtent heap (at.file, at.ofs) → IsBlockAt heap (behind_of (at.file, at.ofs) 176)

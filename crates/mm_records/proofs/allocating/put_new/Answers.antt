@@ -72,6 +72,6 @@ pub returns-in_err-add_extent-clause-full : goal.returns-in_err-add_extent-claus
 returns-in_err-add_extent-clause-full c =
     let p = err_from_is_err_and c.from_residual.result c.from_residual.ensures.1 in
     rw (p.1, p.2) (λ e free s st none. record {
-  no_block = none;
-  no_extent = subst (λ (l : ℕ). NoExtent c.args.draft.now.image s.heap (s.extents free) l) (c.extent_len-long.ensures.is free s st) (c.in_err-add_extent.ensures.full (same_fault _ _ e) free s st);
-})
+      no_block = none;
+      no_extent = subst (λ (l : ℕ). NoExtent c.args.draft.now.image s.heap (s.extents free) l) (c.extent_len-long.ensures.is free s st) (c.in_err-add_extent.ensures.full (same_fault _ _ e) free s st);
+    })
