@@ -1,8 +1,7 @@
 //! Frames in bytes.
 
-use mm_base::{DiskLoc, Name, frame, is_zero};
+use mm_base::{DiskLoc, frame, is_zero};
 use mm_frames::*;
-use std::test::Fail;
 
 /// A record of 32 bytes, alone in the extent at 8192.
 const RECORD: [u8; 18] = [
@@ -25,24 +24,29 @@ fn spells_blocks(rt: HostRuntime) {
         prev_ofs: CHAIN_END,
     };
     put_rec_header(&mut bytes, 1, &header);
-    assert_eq!(rt; bytes, RECORD);
-    assert_eq!(rt; read_rec_header(&RECORD, 1), header);
+    assert_eq!(rt; (bytes, read_rec_header(&RECORD, 1)), (RECORD, header));
     put_next_ofs(&mut bytes, 1, 8400);
     put_prev_ofs(&mut bytes, 1, 8368);
     assert_eq!(rt; &bytes[9..], b"\xd0\x20\0\0\xb0\x20\0\0\xaa".as_slice());
+}
 
+/// The deleted block behind two other bytes; the offset of its null link is 0.
+const DELETED_BEHIND: [u8; 18] = [
+    0xaa, 0xaa, 0x30, 0x3f, 0x00, 0x00, 0x00, 0x20, 0x00, 0x00, 0xff, 0xff, 0xff, 0xff, 0x00, 0x00,
+    0x00, 0x00,
+];
+
+#[test]
+fn spells_deleted_blocks(rt: HostRuntime) {
+    let mut bytes = [0xaa; 18];
     let deleted = read_deleted_header(&DELETED, 0);
-    assert_eq!(rt;
-        deleted,
-        DeletedHeader {
-            length_with_headers: 16176,
-            extent_ofs: 8192,
-            next_deleted: DiskLoc::NULL,
-        }
-    );
+    let expected = DeletedHeader {
+        length_with_headers: 16176,
+        extent_ofs: 8192,
+        next_deleted: DiskLoc::NULL,
+    };
     put_deleted_header(&mut bytes, 2, &deleted);
-    assert_eq!(rt; &bytes[2..14], &DELETED[..12]);
-    assert_eq!(rt; &bytes[14..], [0; 4].as_slice());
+    assert_eq!(rt; (deleted, bytes), (expected, DELETED_BEHIND));
     put_next_deleted(&mut bytes, 2, DiskLoc { file: 1, ofs: 256 });
     assert_eq!(rt; &bytes[10..], b"\x01\0\0\0\0\x01\0\0".as_slice());
 }
@@ -57,17 +61,19 @@ fn spells_file_headers(rt: HostRuntime) {
         unused: DiskLoc { file: 0, ofs: 8192 },
         unused_length: 1040384,
     };
-    assert!(rt; !is_file_header(&bytes, 0));
+    let before = is_file_header(&bytes, 0);
     put_file_header(&mut bytes, 0, &header);
     assert_eq!(rt;
         &bytes[..24],
         b"\x04\0\0\0\x05\0\0\0\0\0\x10\0\0\0\0\0\0\x20\0\0\0\xe0\x0f\0".as_slice()
     );
-    assert!(rt; is_zero(&bytes, 24, 8168));
-    assert_eq!(rt; read_file_header(&bytes, 0), header);
-    assert!(rt; is_file_header(&bytes, 0));
+    let put = is_file_header(&bytes, 0) && is_zero(&bytes, 24, 8168);
     bytes[8191] = 1;
-    assert!(rt; !is_file_header(&bytes, 0));
+    let changed = is_file_header(&bytes, 0);
+    assert_eq!(rt;
+        (read_file_header(&bytes, 0), [before, put, changed]),
+        (header, [false, true, false])
+    );
 }
 
 /// The extent of `test.c` in a new file, with two records.
@@ -101,15 +107,16 @@ fn spells_extents(rt: HostRuntime) {
     let mut bytes = [0xaa; EXTENT_HEADER_LEN];
     put_extent_header(&mut bytes, 0, &header);
     assert_eq!(rt;
-        frame(&bytes, 0, 34),
-        b"DCBA\0\0\0\0\0\xa0\0\0\xff\xff\xff\xff\0\0\0\0\xff\xff\xff\xff\0\0\0\0test.c".as_slice()
+        (frame(&bytes, 0, 34), frame(&bytes, 156, 20)),
+        (
+            b"DCBA\0\0\0\0\0\xa0\0\0\xff\xff\xff\xff\0\0\0\0\xff\xff\xff\xff\0\0\0\0test.c".as_slice(),
+            b"\0\x40\0\0\0\0\0\0\xb0\xa0\0\0\0\0\0\0\xd0\xa0\0\0".as_slice()
+        )
     );
-    assert!(rt; is_zero(&bytes, 34, 122));
     assert_eq!(rt;
-        frame(&bytes, 156, 20),
-        b"\0\x40\0\0\0\0\0\0\xb0\xa0\0\0\0\0\0\0\xd0\xa0\0\0".as_slice()
+        (is_zero(&bytes, 34, 122), read_extent_header(&bytes, 0)),
+        (true, header)
     );
-    assert_eq!(rt; read_extent_header(&bytes, 0), header);
 }
 
 #[test]
@@ -129,6 +136,16 @@ fn links_extents(rt: HostRuntime) {
         ..header
     };
     assert_eq!(rt; read_extent_header(&bytes, 0), changed);
+}
+
+/// The first of the places at which the bytes don't go on with their part.
+pub fn missing(bytes: &[u8], parts: &[(usize, &[u8])]) -> Option<usize> {
+    for (at, part) in parts {
+        if !bytes.get(*at..).unwrap_or(b"").starts_with(part) {
+            return Some(*at);
+        }
+    }
+    None
 }
 
 /// Where the node of a collection with one index has bytes other than zeros and nulls: after its hash and name.
@@ -194,20 +211,20 @@ fn node_bytes(head: &NodeHead) -> [u8; NODE_LEN] {
 }
 
 #[test]
-fn spells_nodes(rt: HostRuntime) -> Result<(), Fail> {
+fn spells_nodes(rt: HostRuntime) {
+    let mut name = [0; 128];
+    name[..3].copy_from_slice(b"a.b");
     let head = NodeHead {
         hash: 0x08197e55,
-        name: Name::new(b"a.b").ok_or("no name")?.padded(),
+        name,
     };
     let bytes = node_bytes(&head);
-    for (at, part) in NODE_PARTS {
-        let found = bytes.get(at..).ok_or("outside")?;
-        assert!(rt; found.starts_with(part), "at {at}");
-    }
-    assert_eq!(rt; &bytes[552..556], [1, 0, 0, 0].as_slice());
-    assert!(rt; is_zero(&bytes, 520, 32) && is_zero(&bytes, 556, 72));
-    assert_eq!(rt; read_node_head(&bytes, 0), head);
-    Ok(())
+    assert_eq!(rt; missing(&bytes, &NODE_PARTS), None);
+    let are_zero = is_zero(&bytes, 520, 32) && is_zero(&bytes, 556, 72);
+    assert_eq!(rt;
+        (read_node_head(&bytes, 0), &bytes[552..556], are_zero),
+        (head, [1, 0, 0, 0].as_slice(), true)
+    );
 }
 
 #[test]
@@ -232,9 +249,14 @@ fn gives_frames(rt: HostRuntime) {
     let header = extent_header();
     let mut bytes = [0; EXTENT_HEADER_LEN];
     put_extent_header(&mut bytes, 0, &header);
-    assert_eq!(rt; extent_header_frame(&header), bytes);
-    let record = read_rec_header(&RECORD, 1);
-    assert_eq!(rt; rec_header_frame(&record).as_slice(), &RECORD[1..17]);
-    let deleted = read_deleted_header(&DELETED, 0);
-    assert_eq!(rt; &deleted_header_frame(&deleted)[..12], &DELETED[..12]);
+    let record = rec_header_frame(&read_rec_header(&RECORD, 1));
+    let deleted = deleted_header_frame(&read_deleted_header(&DELETED, 0));
+    assert_eq!(rt;
+        (
+            extent_header_frame(&header),
+            record.as_slice(),
+            &deleted[..12]
+        ),
+        (bytes, &RECORD[1..17], &DELETED[..12])
+    );
 }

@@ -1,5 +1,6 @@
 //! The frames of the journal in bytes.
 
+use crate::frames::missing;
 use mm_base::{is_zero, put_u16};
 use mm_frames::*;
 
@@ -28,20 +29,25 @@ fn spells_sections(rt: HostRuntime) {
         number: 1,
         file_id: 1,
     };
-    assert_eq!(rt; header, expected);
-    assert_eq!(rt; section_header_frame(&expected), SECTION);
+    assert_eq!(rt;
+        (header, section_header_frame(&expected)),
+        (expected, SECTION)
+    );
 
     let range = EntryHead {
         len: 8,
         ofs: 100,
         file: 0x7fff_ffff,
     };
-    assert_eq!(rt; read_entry_head(&RANGE, 0), range);
-    assert_eq!(rt; entry_head_frame(&range), RANGE);
-
     let made = MadeEntry { file: 1, len: 4096 };
-    assert_eq!(rt; read_made_entry(&MADE, 0), made);
-    assert_eq!(rt; made_entry_frame(&made), MADE);
+    assert_eq!(rt;
+        (read_entry_head(&RANGE, 0), read_made_entry(&MADE, 0)),
+        (range, made)
+    );
+    assert_eq!(rt;
+        (entry_head_frame(&range), made_entry_frame(&made)),
+        (RANGE, MADE)
+    );
     assert_eq!(rt; (NAME_WORD, FOOTER_WORD), (0xffff_fffe, 0xffff_ffff));
 }
 
@@ -50,12 +56,17 @@ fn spells_footers(rt: HostRuntime) {
     let footer = Footer {
         hash: [1, 2, 3, 4, 5, 6, 7, 8, 9, 10, 11, 12, 13, 14, 15, 16],
     };
-    assert_eq!(rt; read_footer(&FOOTER, 0), footer);
-    assert_eq!(rt; footer_frame(&footer), FOOTER);
+    assert_eq!(rt;
+        (read_footer(&FOOTER, 0), footer_frame(&footer)),
+        (footer, FOOTER)
+    );
     let mut bytes = FOOTER;
-    assert!(rt; is_footer(&bytes, 0, &footer));
     bytes[31] = 0;
-    assert!(rt; !is_footer(&bytes, 0, &footer));
+    let are = [
+        is_footer(&FOOTER, 0, &footer),
+        is_footer(&bytes, 0, &footer),
+    ];
+    assert_eq!(rt; are, [true, false]);
 }
 
 /// The front of the lsn file of section 3; 64 zeros follow.
@@ -67,10 +78,11 @@ const LSN: [u8; 24] = [
 fn spells_lsn(rt: HostRuntime) {
     let mut bytes = [0xaa; LSN_LEN];
     put_lsn(&mut bytes, 3);
-    assert!(rt; bytes.starts_with(&LSN));
-    assert!(rt; is_zero(&bytes, 24, 64));
-    assert_eq!(rt; read_lsn(&bytes), Some(3));
-    assert_eq!(rt; read_lsn(&LSN), None);
+    let is_spelled = bytes.starts_with(&LSN) && is_zero(&bytes, 24, 64);
+    assert_eq!(rt;
+        (is_spelled, read_lsn(&bytes), read_lsn(&LSN)),
+        (true, Some(3), None)
+    );
     // a version, the number beside its complement, and the last byte
     for at in [0usize, 8, 16, 87] {
         let mut other = bytes;
@@ -90,20 +102,30 @@ const HEADER_PARTS: [(usize, &[u8]); 3] = [
 fn spells_journal_headers(rt: HostRuntime) {
     let mut bytes = [0xaa; JOURNAL_HEADER_LEN];
     put_journal_header(&mut bytes, 2);
-    for (at, part) in HEADER_PARTS {
-        let found = bytes.get(at..).unwrap_or(b"");
-        assert!(rt; found.starts_with(part), "at {at}");
-    }
+    assert_eq!(rt; missing(&bytes, &HEADER_PARTS), None);
     assert!(rt; is_zero(&bytes, 26, 128) && is_zero(&bytes, 164, 8026));
-    assert_eq!(rt; read_journal_header(&bytes, 2), HeaderKind::Ours);
-    assert_eq!(rt; read_journal_header(&bytes, 3), HeaderKind::Broken);
-    assert_eq!(rt;
-        read_journal_header(b"j\n\x01\x4d\n", 2),
-        HeaderKind::Broken
-    );
+}
+
+#[test]
+fn tells_journal_headers_apart(rt: HostRuntime) {
+    let mut bytes = [0xaa; JOURNAL_HEADER_LEN];
+    put_journal_header(&mut bytes, 2);
+    let ours = read_journal_header(&bytes, 2);
+    let other_file = read_journal_header(&bytes, 3);
+    let short = read_journal_header(b"j\n\x01\x4d\n", 2);
     // another version, and that without a mark
     put_u16(&mut bytes, 2, 0x4d02);
-    assert_eq!(rt; read_journal_header(&bytes, 2), HeaderKind::Foreign);
+    let other_version = read_journal_header(&bytes, 2);
     bytes[25] = 0;
-    assert_eq!(rt; read_journal_header(&bytes, 2), HeaderKind::Broken);
+    let unmarked = read_journal_header(&bytes, 2);
+    assert_eq!(rt;
+        [ours, other_file, short, other_version, unmarked],
+        [
+            HeaderKind::Ours,
+            HeaderKind::Broken,
+            HeaderKind::Broken,
+            HeaderKind::Foreign,
+            HeaderKind::Broken
+        ]
+    );
 }

@@ -1,5 +1,6 @@
 //! What is asked of a disk, a source and a sink, and their answers as a text.
 
+use mm_base::NoMemory;
 use mm_outside::{Device, Disk, Sink, SinkFault, Source, SourceFault};
 use std::alloc::{AllocError, Global};
 use std::test::Fail;
@@ -136,7 +137,8 @@ pub fn written<K: Sink>(
 fn errors_have_a_text(rt: HostRuntime) -> Result<(), Fail> {
     let alloc = rt.alloc();
     let texts = format!(in alloc;
-        "{}, {}, {}, {}",
+        "{}, {}, {}, {}, {}",
+        NoMemory,
         Device::Fault,
         Device::NoMemory,
         SourceFault,
@@ -144,7 +146,7 @@ fn errors_have_a_text(rt: HostRuntime) -> Result<(), Fail> {
     )?;
     assert_eq!(rt;
         texts.as_str(),
-        "the disk failed, out of memory, the source failed, the sink failed"
+        "out of memory, the disk failed, out of memory, the source failed, the sink failed"
     );
     Ok(())
 }

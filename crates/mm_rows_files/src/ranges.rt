@@ -36,28 +36,44 @@ fn weight(alloc: Global) -> Result<u64, NoMemory> {
     Ok(set.weight())
 }
 
-/// The ranges of two sets.
-fn merged(alloc: Global) -> Result<Vec<(u32, u32, u32)>, NoMemory> {
-    let mut set = RangeSet::new(alloc);
-    two_ranges(&mut set, (0, 10, 10), (0, 40, 10))?;
-    let mut more = RangeSet::new(alloc);
-    two_ranges(&mut more, (0, 20, 20), (2, 0, 1))?;
-    set.merge(&more)?;
-    one_normal_form(&set, &set);
+/// The ranges of two sets, where the second is put into the first.
+fn merge(
+    alloc: Global,
+    set: &mut RangeSet,
+    more: &mut RangeSet,
+) -> Result<Vec<(u32, u32, u32)>, NoMemory> {
+    two_ranges(set, (0, 10, 10), (0, 40, 10))?;
+    two_ranges(more, (0, 20, 20), (2, 0, 1))?;
+    set.merge(more)?;
+    one_normal_form(set, set);
     Ok(all(alloc, set.iter())?)
 }
 
-/// The ranges of a set that has room for others, and then those of the same with the others.
-fn with_room(alloc: Global) -> Result<(Vec<(u32, u32, u32)>, Vec<(u32, u32, u32)>), NoMemory> {
+fn merged(alloc: Global) -> Result<Vec<(u32, u32, u32)>, NoMemory> {
+    let mut set = RangeSet::new(alloc);
     let mut more = RangeSet::new(alloc);
-    two_ranges(&mut more, (0, 20, 20), (5, 0, 4096))?;
-    let mut set = RoomSet::new(alloc);
-    set.make_room(&more)?;
-    let before = all(alloc, set.iter())?;
-    set.give_back(&more);
-    set.make_room(&more)?;
-    set.merge(&more);
+    merge(alloc, &mut set, &mut more)
+}
+
+/// How many ranges a set has once there is room for others, and then the ranges of it with the others.
+fn fill_room(
+    alloc: Global,
+    set: &mut RoomSet,
+    more: &mut RangeSet,
+) -> Result<(usize, Vec<(u32, u32, u32)>), NoMemory> {
+    two_ranges(more, (0, 20, 20), (5, 0, 4096))?;
+    set.make_room(more)?;
+    let before = all(alloc, set.iter())?.len();
+    set.give_back(more);
+    set.make_room(more)?;
+    set.merge(more);
     Ok((before, all(alloc, set.iter())?))
+}
+
+fn with_room(alloc: Global) -> Result<(usize, Vec<(u32, u32, u32)>), NoMemory> {
+    let mut set = RoomSet::new(alloc);
+    let mut more = RangeSet::new(alloc);
+    fill_room(alloc, &mut set, &mut more)
 }
 
 #[test]
@@ -66,7 +82,7 @@ fn sets(rt: HostRuntime) -> Result<(), Fail> {
     let ranges = merged(rt.alloc())?;
     assert_eq!(rt; ranges.as_slice(), [(0, 10, 40), (2, 0, 1)].as_slice());
     let (before, after) = with_room(rt.alloc())?;
-    assert_eq!(rt; before.len(), 0);
+    assert_eq!(rt; before, 0);
     assert_eq!(rt; after.as_slice(), [(0, 20, 20), (5, 0, 4096)].as_slice());
     Ok(())
 }
@@ -103,19 +119,26 @@ fn closed(alloc: Global) -> Result<Closed, AllocError> {
     })
 }
 
+/// How long the name of a part is, whether it made just that file, and whether it has just that byte.
+fn look(part: &Part) -> (usize, bool, bool) {
+    last_piece_decides(&part.pieces);
+    let has_made = part.made.as_slice() == [Made { file: 1, len: 4096 }].as_slice();
+    let has_byte = match part.pieces.as_slice() {
+        [piece] => piece.bytes.as_slice() == [8].as_slice(),
+        _ => false,
+    };
+    (part.name.as_slice().len(), has_made, has_byte)
+}
+
+fn seen(alloc: Global) -> Result<(usize, bool, bool), AllocError> {
+    let closed = closed(alloc)?;
+    moves_between_threads(&closed);
+    moves_between_threads(&RoomSet::new(alloc));
+    Ok(look(&closed.part))
+}
+
 #[test]
 fn parts(rt: HostRuntime) -> Result<(), Fail> {
-    let closed = closed(rt.alloc())?;
-    moves_between_threads(&closed);
-    moves_between_threads(&RoomSet::new(rt.alloc()));
-    last_piece_decides(&closed.part.pieces);
-    assert_eq!(rt; closed.part.name.as_slice().len(), 0);
-    assert_eq!(rt;
-        closed.part.made.as_slice(),
-        [Made { file: 1, len: 4096 }].as_slice()
-    );
-    for piece in closed.part.pieces.as_slice() {
-        assert_eq!(rt; piece.bytes.as_slice(), [8].as_slice());
-    }
+    assert_eq!(rt; seen(rt.alloc())?, (0, true, true));
     Ok(())
 }

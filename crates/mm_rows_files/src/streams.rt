@@ -2,20 +2,33 @@
 
 use crate::outside::{read, written};
 use mm_host::{StdinSource, StdoutSink};
-use std::alloc::Allocator;
+use std::alloc::{AllocError, Allocator, Global};
 use std::fmt::Display;
 use std::io::{self, BufRead, ErrorKind, Lines, Read};
 use std::test::Fail;
 
+/// What reads of an input answer.
+fn read_of<R: Input + Drop>(rt: R, alloc: Global, lens: &[usize]) -> Result<String, AllocError> {
+    let mut source = StdinSource::new(rt);
+    read(alloc, &mut source, lens)
+}
+
+/// What writes to an output answer.
+fn written_to<R: Print + Drop>(
+    rt: R,
+    alloc: Global,
+    texts: &[&[u8]],
+) -> Result<String, AllocError> {
+    let mut sink = StdoutSink::new(rt);
+    written(alloc, &mut sink, texts)
+}
+
 /// Tests are run on an empty input.
 #[test]
 fn standard_streams(rt: HostRuntime) -> Result<(), Fail> {
-    let mut source = StdinSource::new(rt);
-    let text = read(rt.alloc(), &mut source, &[4])?;
-    assert_eq!(rt; text.as_str(), "0 [7, 7, 7, 7]; ");
-    let mut sink = StdoutSink::new(rt);
-    let text = written(rt.alloc(), &mut sink, &[b"written by a test\n"])?;
-    assert_eq!(rt; text.as_str(), "18; ");
+    let mut text = read_of(rt, rt.alloc(), &[4])?;
+    text.push_str(written_to(rt, rt.alloc(), &[b"written by a test\n"])?.as_str())?;
+    assert_eq!(rt; text.as_str(), "0 [7, 7, 7, 7]; 18; ");
     Ok(())
 }
 
@@ -86,13 +99,10 @@ impl Print for Odd {
 /// A short read and a short write are handed on, and an error and a write of no bytes are faults.
 #[test]
 fn odd_streams(rt: HostRuntime) -> Result<(), Fail> {
-    let mut source = StdinSource::new(Odd { most: 0 });
-    let text = read(rt.alloc(), &mut source, &[2, 2])?;
-    assert_eq!(rt; text.as_str(), "1 [120, 7, 7, 7]; fault; ");
-    for (most, answers) in [(2, "2; "), (0, "fault; ")] {
-        let mut sink = StdoutSink::new(Odd { most });
-        let text = written(rt.alloc(), &mut sink, &[b"abc"])?;
-        assert_eq!(rt; text.as_str(), answers);
+    let mut text = read_of(Odd { most: 0 }, rt.alloc(), &[2, 2])?;
+    for most in [2, 0] {
+        text.push_str(written_to(Odd { most }, rt.alloc(), &[b"abc"])?.as_str())?;
     }
+    assert_eq!(rt; text.as_str(), "1 [120, 7, 7, 7]; fault; 2; fault; ");
     Ok(())
 }

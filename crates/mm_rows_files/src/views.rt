@@ -11,17 +11,17 @@ use std::test::Fail;
 fn moves_between_threads<T: Send + Sync>(_: &T) {}
 
 /// Views of one file, with two bytes in it.
-fn loaded(alloc: Global, len: u32) -> Result<Views, NoMemory>
+fn loaded(alloc: Global, len: u32) -> Views
     requires { len ≤ 67108864 }
 {
     let mut views = Views::new(alloc);
-    views.load(0, len)?;
-    if let Some(len) = views.len(0)
+    if let Ok(()) = views.load(0, len)
+        && let Some(len) = views.len(0)
         && 12 <= len
     {
         views.fill(0, 10, &[7, 8]);
     }
-    Ok(views)
+    views
 }
 
 /// Eight bytes in two intents that touch, and what these weigh.
@@ -45,9 +45,12 @@ fn make_file(draft: &mut Draft) -> Result<u64, NoMemory> {
     Ok(draft.weigh())
 }
 
-fn adopted(mut draft: Draft) -> Result<Views, NoMemory> {
-    draft.reserve()?;
-    Ok(draft.adopt())
+/// The views of a draft, which is given up where there is no memory to adopt it.
+fn adopted(mut draft: Draft) -> Views {
+    match draft.reserve() {
+        Ok(()) => draft.adopt(),
+        Err(NoMemory) => draft.give_up(),
+    }
 }
 
 fn group(views: &mut Views) -> Result<Part, NoMemory> {
@@ -107,55 +110,53 @@ fn look(views: &Views, at: u32) -> Seen {
     }
 }
 
-/// What is seen of the views of a draft that is adopted, and of them after its group, with the group.
-fn after_group(draft: Draft) -> Result<(Seen, Part, Seen), NoMemory> {
-    let mut views = adopted(draft)?;
+/// What is seen of the views of a draft that is adopted, their group, and what is seen of them then.
+fn after_group(draft: Draft) -> (Seen, Result<Part, NoMemory>, Seen) {
+    let mut views = adopted(draft);
     let before = look(&views, 100);
-    let part = group(&mut views)?;
-    Ok((before, part, look(&views, 107)))
+    let part = group(&mut views);
+    (before, part, look(&views, 107))
 }
 
-/// The same of a draft that writes eight bytes, with what it weighs.
-fn of_writes(alloc: Global) -> Result<(u64, Draft), NoMemory> {
-    let mut draft = loaded(alloc, 8192)?.draft();
-    Ok((write_eight(&mut draft)?, draft))
+/// What a draft that writes eight bytes weighs, with the draft.
+fn of_writes(alloc: Global) -> (Result<u64, NoMemory>, Draft) {
+    let mut draft = loaded(alloc, 8192).draft();
+    (write_eight(&mut draft), draft)
 }
 
-/// A draft that makes a file, with what it weighs.
-fn of_a_file(alloc: Global) -> Result<(u64, Draft), NoMemory> {
+/// What a draft that makes a file weighs, with the draft.
+fn of_a_file(alloc: Global) -> (Result<u64, NoMemory>, Draft) {
     let mut draft = Views::new(alloc).draft();
-    Ok((make_file(&mut draft)?, draft))
+    (make_file(&mut draft), draft)
+}
+
+/// What is seen of views with no file that was made.
+fn unmade(weight: u64, bytes: [Option<u8>; 3]) -> Seen {
+    Seen {
+        weight,
+        bytes,
+        made: [None, None],
+    }
 }
 
 // A draft that writes eight bytes in two intents that touch, its group, and the apply of that.
 #[test]
 fn one_group(rt: HostRuntime) -> Result<(), Fail> {
-    let (weight, draft) = of_writes(rt.alloc())?;
-    let (before, part, after) = after_group(draft)?;
-    assert_eq!(rt; weight, 20);
-    let bytes = [Some(1), Some(1), Some(0)];
-    assert_eq!(rt;
-        before,
-        Seen {
-            weight: 20,
-            bytes,
-            made: [None, None]
-        }
-    );
-    let bytes = [Some(8), Some(8), Some(8)];
-    assert_eq!(rt;
-        after,
-        Seen {
-            weight: 0,
-            bytes,
-            made: [None, None]
-        }
-    );
-    assert_eq!(rt; part.made.as_slice().len(), 0);
-    assert_eq!(rt; part.pieces.as_slice().len(), 1);
+    let (weight, draft) = of_writes(rt.alloc());
+    let (before, part, after) = after_group(draft);
+    let seen = [
+        unmade(20, [Some(1), Some(1), Some(0)]),
+        unmade(0, [Some(8), Some(8), Some(8)]),
+    ];
+    assert_eq!(rt; (weight, [before, after]), (Ok(20), seen));
+    let part = part?;
+    let counts = (part.made.as_slice().len(), part.pieces.as_slice().len());
+    assert_eq!(rt; counts, (0, 1));
     for piece in part.pieces.as_slice() {
-        assert_eq!(rt; (piece.file, piece.at), (0, 100));
-        assert_eq!(rt; piece.bytes.as_slice(), [1, 2, 3, 4, 5, 6, 7, 8].as_slice());
+        assert_eq!(rt;
+            (piece.file, piece.at, piece.bytes.as_slice()),
+            (0, 100, [1, 2, 3, 4, 5, 6, 7, 8].as_slice())
+        );
     }
     Ok(())
 }
@@ -163,67 +164,46 @@ fn one_group(rt: HostRuntime) -> Result<(), Fail> {
 // A file that is made weighs 12, and is in the shared image once its part is applied.
 #[test]
 fn a_made_file(rt: HostRuntime) -> Result<(), Fail> {
-    let (weight, draft) = of_a_file(rt.alloc())?;
-    let (before, part, after) = after_group(draft)?;
-    assert_eq!(rt; weight, 12);
-    let bytes = [None, None, None];
-    assert_eq!(rt;
-        before,
-        Seen {
-            weight: 12,
-            bytes,
-            made: [Some(4096), None]
-        }
-    );
-    assert_eq!(rt;
-        after,
-        Seen {
-            weight: 0,
-            bytes,
-            made: [Some(4096), Some(4096)]
-        }
-    );
-    assert_eq!(rt; part.pieces.as_slice().len(), 0);
-    assert_eq!(rt; part.made.as_slice().len(), 1);
+    let (weight, draft) = of_a_file(rt.alloc());
+    let (before, part, after) = after_group(draft);
+    let first = Seen {
+        weight: 12,
+        bytes: [None; 3],
+        made: [Some(4096), None],
+    };
+    let then = Seen {
+        weight: 0,
+        made: [Some(4096); 2],
+        ..first
+    };
+    assert_eq!(rt; (weight, [before, after]), (Ok(12), [first, then]));
+    let part = part?;
+    let counts = (part.made.as_slice().len(), part.pieces.as_slice().len());
+    assert_eq!(rt; counts, (1, 0));
     Ok(())
 }
 
-/// Bytes of a draft before and after it writes and makes a file, and what is seen once it is given up.
-fn given_up_of(
-    mut draft: Draft,
-) -> Result<([Option<u8>; 2], [Option<u8>; 2], Seen, Seen), NoMemory> {
+/// What a draft weighs that has written eight bytes and made a file.
+fn write_and_make(draft: &mut Draft) -> Result<u64, NoMemory> {
+    write_eight(draft)?;
+    make_file(draft)
+}
+
+/// Bytes of a draft before and after it writes and makes a file, what it weighs then, and what is seen once it is given
+/// up.
+fn given_up_of(mut draft: Draft) -> ([[Option<u8>; 2]; 2], Result<u64, NoMemory>, [Seen; 2]) {
     let before = drafted(&draft, 11);
-    write_eight(&mut draft)?;
-    make_file(&mut draft)?;
+    let weight = write_and_make(&mut draft);
     let after = drafted(&draft, 100);
     let views = draft.give_up();
-    Ok((before, after, look(&views, 100), look(&views, 11)))
+    let seen = [look(&views, 100), look(&views, 11)];
+    ([before, after], weight, seen)
 }
 
 // A draft that is given up leaves nothing.
 #[test]
-fn given_up(rt: HostRuntime) -> Result<(), Fail> {
-    let draft = loaded(rt.alloc(), 8192)?.draft();
-    let (before, after, at_100, at_11) = given_up_of(draft)?;
-    assert_eq!(rt; before, [Some(8), Some(8)]);
-    assert_eq!(rt; after, [Some(1), Some(1)]);
-    let bytes = [Some(0), Some(0), Some(0)];
-    assert_eq!(rt;
-        at_100,
-        Seen {
-            weight: 0,
-            bytes,
-            made: [None, None]
-        }
-    );
-    let bytes = [Some(8), Some(8), Some(8)];
-    assert_eq!(rt;
-        at_11,
-        Seen {
-            weight: 0,
-            bytes,
-            made: [None, None]
-        }
-    );
-    Ok(())
+fn given_up(rt: HostRuntime) {
+    let (bytes, weight, seen) = given_up_of(loaded(rt.alloc(), 8192).draft());
+    assert_eq!(rt; (bytes, weight), ([[Some(8); 2], [Some(1); 2]], Ok(32)));
+    assert_eq!(rt; seen, [unmade(0, [Some(0); 3]), unmade(0, [Some(8); 3])]);
 }
