@@ -1,5 +1,6 @@
 pub mod Places
 pub mod TwoLists
+pub mod Parting
 pub mod ListLaws
 pub mod Frames
 pub mod Moved

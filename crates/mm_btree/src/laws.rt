@@ -1,15 +1,15 @@
 //! Laws of trees, each the contract of a function that does nothing. They hold of any buckets, wherever they lie.
 
-ghost use Rattle.std.specs.Prelude.{◌≡◌, ◌≢◌, ◌≤◌, ◌<◌, ◌++◌, ◌∷◌, [], ◌^◌, ℕ, suc, List, Bool, true, Option, Some, None, length, map, insert, remove};
+ghost use Rattle.std.specs.Prelude.{◌≡◌, ◌≢◌, ◌≤◌, ◌<◌, ◌++◌, ◌∷◌, [], ◌+◌, ◌^◌, ℕ, suc, List, Bool, true, Option, Some, None, length, map, insert, remove};
 ghost use Rattle.std.specs.List.{AllByRecursion};
 ghost use Rattle.mm_base.specs.Places.{null};
 ghost use Rattle.mm_base.specs.declared.place.DiskLoc.{DiskLoc};
-ghost use Rattle.mm_bucket.specs.Pairs.{Pair, Contents, with_pair};
-ghost use Rattle.mm_bucket.specs.Rules.{children};
-ghost use Rattle.mm_btree.specs.Nodes.{Item, Node, Buckets, item_of};
+ghost use Rattle.mm_bucket.specs.Pairs.{Pair, Contents, pair_at, with_pair, IsParted};
+ghost use Rattle.mm_bucket.specs.Rules.{children, AreAlike};
+ghost use Rattle.mm_btree.specs.Nodes.{Item, Node, Buckets, item_of, node_of};
 ghost use Rattle.mm_btree.specs.Lists.{has, Distinct, ins, Sorted, Chains, Told};
 ghost use Rattle.mm_btree.specs.Trees.{Sub, at_of, all_places, IsOver, Stands, Moves, Became, Pending, sub, Changed, Thinned, Beside};
-ghost use Rattle.mm_btree.specs.Changes.{Up, IsSettled, roots_of, between_of, IsRejoined, roots_joined, between_joined, StandsAt, rooted_map};
+ghost use Rattle.mm_btree.specs.Changes.{Up, IsSplit, IsSettled, roots_of, between_of, IsRejoined, roots_joined, between_joined, StandsAt, rooted_map};
 
 /// A bucket's children go with its pairs: one is put in or taken out with its pair, and they are parted where the pairs are, the child
 /// before the pair between being the last one of the left part. What `Bucket::put` makes has one pair and one child more, the child behind
@@ -26,6 +26,12 @@ pub fn children_go_along()
         → children (with_pair b i key rec after) ≡ insert (children b) (suc i) after }
     ensures put_pairs { (b : Contents) (i : ℕ) (key : List ℕ) (rec after : DiskLoc) → i ≤ length b.pairs
         → map item_of (with_pair b i key rec after).pairs ≡ insert (map item_of b.pairs) i (record { key = key; rec = rec }) }
+{}
+
+/// Contents that were parted by `Bucket::put` are a node that is split in two, once the pair between is taken out of the left part.
+pub fn parted_is_split()
+    ensures { (whole left right : Contents) (last : ℕ) → IsParted whole left right → last + 1 ≡ length left.pairs → AreAlike (children whole)
+        → IsSplit (node_of whole) (node_of (record left { pairs = remove left.pairs last })) (item_of (pair_at left.pairs last)) (node_of right) }
 {}
 
 /// A subtree stands in any buckets that are the same at its places, and a bucket stands at each of them.

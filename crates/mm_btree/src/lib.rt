@@ -15,6 +15,6 @@
 mod laws;
 
 pub use laws::{
-    children_go_along, high_trees_are_large, neighbours_changed, order_is_kept, rejoined, rooted,
-    settled, stands_elsewhere, thinned_then_joined,
+    children_go_along, high_trees_are_large, neighbours_changed, order_is_kept, parted_is_split,
+    rejoined, rooted, settled, stands_elsewhere, thinned_then_joined,
 };
