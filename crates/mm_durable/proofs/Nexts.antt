@@ -27,7 +27,10 @@ use Rattle.mm_crash.proofs.Whole.{data_both}
 use Rattle.mm_journal.specs.Real.{disk_name}
 use Rattle.mm_journal.proofs.Real.{the_format, the_names}
 use Rattle.mm_items.specs.Files.{TellsApart, Images, with_part, with_parts, PartsFit, AreLaid}
+use Rattle.mm_items.specs.Given.{Given, sealed_parts, AreApart, Taken, AllFollow, with_items, images_of}
 use Rattle.mm_items.proofs.Sections.{parts_laid}
+use Rattle.mm_items.proofs.Given.{given_fit, given_images}
+use Rattle.std.specs.FinMap.{get}
 use Rattle.mm_durable.proofs.Own.{stem_is}
 use Rattle.mm_durable.proofs.Flushes.{names_are}
 use Rattle.mm_durable.proofs.Syncs.{is_data}
@@ -111,3 +114,23 @@ module _ (story : Story) (x : Section) (images : Images) (laid : AreLaid is_db_n
     once = λ file is. subst (λ (f : List ℕ → ℕ → List ℕ). IsMadeOnce file (entries_of f (story.sections ++ x ∷ []))) (sym names_are) (sealed_laid.once file);
     inside = λ file is. subst (λ (f : List ℕ → ℕ → List ℕ). Fits file (size (story.base file)) (entries_of f (story.sections ++ x ∷ []))) (sym names_are) (sealed_laid.inside file);
   }
+
+-- ---- the section of what the databases gave for a group
+
+module _ (story : Story) (taken : Taken) (laid : AreLaid is_db_name disk_name story.base (entries_of disk_name story.sections) (images_of taken)) (given : List Given) (follow : AllFollow is_db_name taken given) (separate : AreApart given) (number : ℕ) where
+  abbrev pub sealed_section : Section
+  sealed_section = record { number = number; parts = sealed_parts given }
+
+  -- it may come next
+  pub given_next : the_format.can sealed_section ≡ true → number ≡ story.last + length story.sections + 1 → IsNext the_format the_names story sealed_section
+  given_next can is = comes_next story sealed_section (images_of taken) laid (given_fit is_db_name taken given follow separate) can is
+
+  -- and then the databases' files read what their items give, the new ones included
+  pub given_laid : AreLaid is_db_name disk_name story.base (entries_of disk_name (with_section story sealed_section).sections) (images_of (with_items given taken))
+  given_laid =
+      let all = sealed_laid story sealed_section (images_of taken) laid (given_fit is_db_name taken given follow separate) in
+      record {
+        once = all.once;
+        inside = all.inside;
+        reads = λ n is f file. all.reads n is f file ∙ ap (λ i. get i f) (given_images given taken n separate);
+      }
