@@ -1,6 +1,6 @@
 -- A place is taken, in a block that was there or in a new extent.
-use Rattle.std.proofs.Common.{◌≡◌, ◌≢◌, ℕ, ◌+◌, ◌-◌, ◌<◌, ◌≤◌, inl, inr, Bool, true, false, List, ◌∷◌, length, Option, Some, None, Result, Ok, Err, refl, sym, ◌∙◌, ap, subst, arith}
-use Rattle.std.specs.Prelude.{◌&&◌, ◌==◌, if◌then◌else◌, IfOk, OnOk}
+use Rattle.std.proofs.Common.{◌≡◌, ℕ, ◌+◌, ◌-◌, ◌≤◌, inl, inr, Bool, true, List, ◌∷◌, length, Some, Result, Ok, Err, refl, sym, ◌∙◌, ap, arith}
+use Rattle.std.specs.Prelude.{◌&&◌, ◌==◌, IfOk, OnOk}
 use Rattle.std.specs.FinMap.{get}
 use Rattle.std.proofs.lemmas.Bool.{eq-eqb}
 use Rattle.mm_base.specs.declared.place.DiskLoc.{DiskLoc}
@@ -8,19 +8,19 @@ use Rattle.mm_frames.specs.declared.details.Details.{Details}
 use Rattle.mm_nstable.specs.Nodes.{name_in, node_at, details_in, is_used, IsTable, SameNames}
 use Rattle.mm_nstable.specs.Table.{Held, table_of}
 use Rattle.mm_nstable.proofs.Tables.{table_at}
-use Rattle.mm_links.specs.Links.{Place, same, has}
+use Rattle.mm_links.specs.Links.{Place, has}
 use Rattle.mm_links.proofs.LinkLaws.{if_true, has_here, same_own}
 use Rattle.mm_ranges.specs.Overlay.{Image}
 use Rattle.mm_extents.specs.Heap.{deleted}
 use Rattle.mm_extents.specs.Changes.{IsLow, behind_of}
 use Rattle.mm_extents.proofs.FileLaws.{low_place}
 use Rattle.mm_extents.proofs.Walks.{has_middle}
-use Rattle.mm_records.specs.Constants.{is_name, constants_of, SameConstants}
+use Rattle.mm_records.specs.Constants.{is_name, SameConstants}
 use Rattle.mm_records.specs.Shape.{Shape, list_for}
-use Rattle.mm_records.specs.Map.{live_at, name_at}
+use Rattle.mm_records.specs.Map.{name_at}
 use Rattle.mm_records.specs.InHand.{StandsWith}
 use Rattle.mm_records.specs.Searching.{NoBlock, IsChosen}
-use Rattle.mm_records.specs.Adding.{kept_of, IsAdded}
+use Rattle.mm_records.specs.Adding.{IsAdded}
 use Rattle.mm_records.specs.Extending.{IsExtended}
 use Rattle.mm_records.specs.Asking.{extent_len}
 use Rattle.mm_records.specs.Allocating.{IsAllocated}

@@ -1,5 +1,5 @@
 -- How many bytes are asked for.
-use Rattle.std.proofs.Common.{◌≡◌, ◌≢◌, ℕ, ℤ, pos, negsuc, suc, ◌+◌, ◌-◌, ◌*◌, ◌/◌, ◌^◌, ◌<◌, ◌≤◌, inl, inr, true, List, length, Option, Some, None, refl, sym, ◌∙◌, ap, subst, arith}
+use Rattle.std.proofs.Common.{◌≡◌, ℕ, ℤ, pos, negsuc, suc, ◌+◌, ◌-◌, ◌*◌, ◌/◌, ◌^◌, ◌<◌, ◌≤◌, inl, inr, List, Option, Some, None, refl, sym, ◌∙◌, ap, arith}
 use Rattle.std.specs.Prelude.{min, max}
 use Rattle.std.specs.Option.{option_map}
 use Rattle.std.proofs.lemmas.Bool.{cases_lt}
@@ -7,11 +7,10 @@ use Rattle.std.proofs.Math.Pow.{pow_mono}
 use Rattle.std.proofs.Math.Nat.{two-pow-succ}
 use Rattle.mm_base.specs.Places.{null}
 use Rattle.mm_base.specs.declared.place.DiskLoc.{DiskLoc}
-use Rattle.mm_ranges.specs.Overlay.{Image, bytes_at}
+use Rattle.mm_ranges.specs.Overlay.{Image}
 use Rattle.mm_frames.specs.declared.extent_header.ExtentHeader.{ExtentHeader}
-use Rattle.mm_frames.specs.declared.deleted_header.DeletedHeader.{DeletedHeader}
 use Rattle.mm_frames.specs.declared.details.Details.{Details}
-use Rattle.mm_links.specs.Links.{Place, has, last_of}
+use Rattle.mm_links.specs.Links.{Place, last_of}
 use Rattle.mm_links.proofs.LinkLaws.{has_last}
 use Rattle.mm_extents.specs.Heap.{Cell, extent, deleted, IsHeap}
 use Rattle.mm_extents.specs.Changes.{loc, loc_or, len_of}

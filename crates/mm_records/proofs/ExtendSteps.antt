@@ -1,7 +1,6 @@
 -- The files stand once a new extent is linked in and its namespace's details are in hand.
-use Rattle.std.proofs.Common.{◌≡◌, ◌≢◌, ℕ, ℤ, pos, suc, zero, ◌+◌, ◌-◌, ◌*◌, ◌<◌, ◌≤◌, ◌⊎◌, inl, inr, Bool, true, false, cond, List, [], ◌∷◌, ◌++◌, length, Option, Some, None, refl, sym, ◌∙◌, ap, subst, arith}
-use Rattle.std.specs.Prelude.{◌&&◌, ◌==◌, if◌then◌else◌, nat_lt, slice_index_or, sum_by, unwrap_or}
-use Rattle.std.specs.Option.{option_map}
+use Rattle.std.proofs.Common.{◌≡◌, ◌≢◌, ℕ, ℤ, pos, suc, zero, ◌-◌, ◌<◌, ◌⊎◌, inl, inr, Bool, true, false, cond, List, [], ◌∷◌, length, Option, Some, None, refl, sym, ◌∙◌, ap, subst, arith}
+use Rattle.std.specs.Prelude.{◌&&◌, ◌==◌, if◌then◌else◌, nat_lt, slice_index_or, sum_by}
 use Rattle.std.specs.FinMap.{get, insert, get-insert}
 use Rattle.std.specs.Cmp.Lexicographic.{nat_list_cmp_total}
 use Rattle.std.proofs.lemmas.Bool.{cases_Bool, cases_lt, eqb-true, false≢true}
@@ -9,7 +8,6 @@ use Rattle.std.proofs.lemmas.Bool.Decides.{nat_tests}
 use Rattle.mm_base.specs.Bytes.{part}
 use Rattle.mm_base.specs.Places.{null}
 use Rattle.mm_ranges.specs.Overlay.{Image, bytes_at}
-use Rattle.mm_base.specs.Lists.{list_of}
 use Rattle.mm_base.specs.Places.{place_of}
 use Rattle.mm_base.proofs.ListLaws.{length-list_of}
 use Rattle.mm_frames.specs.Details.{details_of}
@@ -24,19 +22,19 @@ use Rattle.mm_nstable.proofs.Tables.{used_parts, table_at, table_none}
 use Rattle.mm_links.specs.Links.{Place, same, has, first_of, last_of, appended}
 use Rattle.mm_links.proofs.LinkLaws.{same_is, if_true, if_false, has_first, has_last}
 use Rattle.mm_links.proofs.Appending.{last_new}
-use Rattle.mm_extents.specs.Heap.{Cell, extent, IsHeap}
+use Rattle.mm_extents.specs.Heap.{extent, IsHeap}
 use Rattle.mm_extents.specs.Changes.{loc, loc_or, len_of, KeepsHeaders, behind_of}
 use Rattle.mm_extents.specs.Files.{header_unused, unused_in}
 use Rattle.mm_extents.specs.Tiling.{Outline, ground, IsTiled}
 use Rattle.mm_extents.proofs.FileLaws.{files_kept}
-use Rattle.mm_records.specs.Constants.{is_name, constants_of, SameConstants}
+use Rattle.mm_records.specs.Constants.{is_name, constants_of}
 use Rattle.mm_records.specs.Shape.{Shape, list_for}
-use Rattle.mm_records.specs.Stands.{DetailsStand, HasNode, FreeStands, ns_in, ext_len, len_at, room_of, walk}
+use Rattle.mm_records.specs.Stands.{DetailsStand, HasNode, ns_in, ext_len, len_at, room_of, walk}
 use Rattle.mm_records.specs.Map.{name_at}
 use Rattle.mm_records.specs.InHand.{StandsWith}
 use Rattle.mm_records.specs.Extending.{IsExtended}
 use Rattle.mm_records.proofs.Freed.{name_is, name_own}
-use Rattle.mm_records.proofs.ConstantLaws.{constants_stay, same_constants}
+use Rattle.mm_records.proofs.ConstantLaws.{constants_stay}
 use Rattle.mm_records.proofs.Continues.{unused_kept}
 use Rattle.mm_records.proofs.Extended as x
 use Rattle.mm_records.proofs.Extended.{Grows}

@@ -1,7 +1,7 @@
 -- What stands where once a new extent is linked in.
-use Rattle.std.proofs.Common.{◌≡◌, ◌≢◌, ℕ, ℤ, pos, negsuc, ◌+◌, ◌-◌, ◌≤◌, inl, inr, true, false, List, [], length, Option, Some, None, refl, sym, ◌∙◌, ap, subst, arith}
+use Rattle.std.proofs.Common.{◌≡◌, ◌≢◌, ℕ, pos, negsuc, ◌+◌, ◌-◌, inl, inr, true, false, List, Option, Some, None, refl, sym, ◌∙◌, ap, arith}
 use Rattle.std.specs.Option.{option_map}
-use Rattle.std.proofs.lemmas.Bool.{cases_Bool, false≢true}
+use Rattle.std.proofs.lemmas.Bool.{cases_Bool}
 use Rattle.mm_base.specs.Bytes.{padded}
 use Rattle.mm_base.specs.Places.{null}
 use Rattle.mm_base.specs.declared.place.DiskLoc.{DiskLoc}
@@ -12,13 +12,13 @@ use Rattle.mm_frames.specs.declared.rec_header.RecHeader.{RecHeader}
 use Rattle.mm_frames.specs.declared.deleted_header.DeletedHeader.{DeletedHeader}
 use Rattle.mm_frames.specs.declared.details.Details.{Details}
 use Rattle.mm_frames.specs.declared.free_ends.FreeEnds.{FreeEnds}
-use Rattle.mm_links.specs.Links.{Place, same, has, first_of, last_of, without}
-use Rattle.mm_links.proofs.LinkLaws.{same_is, same_own, same_not, not_same, has_last, has_without, has_of_without}
+use Rattle.mm_links.specs.Links.{Place, same, has, first_of, last_of}
+use Rattle.mm_links.proofs.LinkLaws.{same_is, same_not, not_same, has_last, has_without}
 use Rattle.mm_extents.specs.Heap.{Cell, extent, live, deleted, Heap, change}
 use Rattle.mm_extents.specs.Changes.{loc, loc_or, xnext_set, xprev_set, deleted_next_set, behind_of}
 use Rattle.mm_extents.specs.Tiling.{outline, ground}
 use Rattle.mm_extents.specs.Chains.{ext_next, ext_prev}
-use Rattle.mm_extents.specs.FreeExtents.{HasFree, header_made, whole_block, next_passed, without_links, IsPlaced, IsNewExtent}
+use Rattle.mm_extents.specs.FreeExtents.{HasFree, header_made, whole_block, next_passed, without_links, IsNewExtent}
 use Rattle.mm_extents.proofs.Names.{name_again}
 use Rattle.mm_extents.proofs.Spots.{low_file}
 use Rattle.mm_extents.proofs.FileLaws.{low_place}

@@ -5,24 +5,22 @@ use Rattle.std.specs.Option.{option_map}
 use Rattle.std.proofs.lemmas.Bool.{cases_Bool, false≢true}
 use Rattle.std.proofs.lemmas.Grind.{flat_map-append}
 use Rattle.std.proofs.lemmas.List.{append-nil}
-use Rattle.mm_base.specs.Places.{null}
 use Rattle.mm_ranges.specs.Overlay.{Image}
 use Rattle.mm_frames.specs.Texts.{text_in}
 use Rattle.mm_frames.specs.declared.extent_header.ExtentHeader.{ExtentHeader}
-use Rattle.mm_frames.specs.declared.rec_header.RecHeader.{RecHeader}
 use Rattle.mm_frames.specs.declared.details.Details.{Details}
 use Rattle.mm_base.specs.declared.place.DiskLoc.{DiskLoc}
 use Rattle.mm_links.specs.Links.{Place, same, has, first_of, last_of, next_in, appended, IsLinked}
 use Rattle.mm_links.proofs.LinkLaws.{same_is, same_own, same_not, if_true, if_false, has_here, has_before, last_next, relinked}
-use Rattle.mm_links.proofs.Appending.{has_appended, has_stays, has_new, last_new, linked_on}
+use Rattle.mm_links.proofs.Appending.{has_appended, has_stays, has_new, linked_on}
 use Rattle.mm_extents.specs.Heap.{Cell, extent, live, deleted}
-use Rattle.mm_extents.specs.Changes.{loc, loc_or, ofs_or, behind_of}
+use Rattle.mm_extents.specs.Changes.{loc_or, ofs_or, behind_of}
 use Rattle.mm_extents.specs.Files.{unused_in}
 use Rattle.mm_extents.specs.Tiling.{an_extent, outline, ground}
 use Rattle.mm_extents.specs.Chains.{ext_next, ext_prev, ExtentsStand}
 use Rattle.mm_records.specs.Constants.{is_name}
 use Rattle.mm_records.specs.Shape.{Shape, list_for, rec_next, rec_prev}
-use Rattle.mm_records.specs.Stands.{RecordsStand, ListsStand, IsRecord, NamesEnds, ext_len, room_of, walk, HasNode}
+use Rattle.mm_records.specs.Stands.{RecordsStand, ListsStand, NamesEnds, room_of, walk}
 use Rattle.mm_records.specs.Map.{ofs_of, extent_of, owner, live_room, live_at}
 use Rattle.mm_records.specs.Extending.{extended_shape}
 use Rattle.mm_records.proofs.Freed.{name_is, name_own}

@@ -1,5 +1,5 @@
 -- What linking a new extent asks for and gives, at what the code reads.
-use Rattle.std.proofs.Common.{◌≡◌, ◌≢◌, ℕ, ℤ, pos, ◌+◌, ◌-◌, ◌*◌, ◌<◌, ◌≤◌, inl, inr, true, false, List, length, Option, Some, None, refl, sym, ◌∙◌, ap, subst, arith}
+use Rattle.std.proofs.Common.{◌≡◌, ◌≢◌, ℕ, pos, ◌+◌, ◌-◌, ◌*◌, ◌<◌, ◌≤◌, inl, inr, true, false, List, length, Option, Some, None, refl, sym, ◌∙◌, ap, subst, arith}
 use Rattle.std.specs.Prelude.{◌==◌, slice_index_or}
 use Rattle.std.specs.Result.{IsErrOf}
 use Rattle.std.proofs.Common.{Err}
@@ -22,13 +22,13 @@ use Rattle.mm_frames.specs.declared.details.Details.{Details}
 use Rattle.mm_frames.specs.declared.free_ends.FreeEnds.{FreeEnds}
 use Rattle.mm_nstable.specs.FreeChain.{HasFreeChain, ends_of, with_ends}
 use Rattle.mm_links.specs.Links.{Place, same, has, first_of, last_of}
-use Rattle.mm_links.proofs.LinkLaws.{if_true, if_false, has_last}
+use Rattle.mm_links.proofs.LinkLaws.{if_true, has_last}
 use Rattle.mm_extents.specs.Heap.{Cell, extent, deleted, Heap, IsHeap, change}
 use Rattle.mm_extents.specs.Changes.{loc, loc_or, IsLow, LowOr, len_of, KeepsHeaders, xnext_set, xprev_set, behind_of}
 use Rattle.mm_extents.specs.Tiling.{outline}
 use Rattle.mm_extents.specs.FreeExtents.{HasFree, header_made, whole_block, next_passed, ExtentOr, IsNewExtent, IsMadeOf}
 use Rattle.mm_extents.proofs.FileLaws.{low_place, short_file}
-use Rattle.mm_extents.proofs.Writes.{changed_here, changed_there}
+use Rattle.mm_extents.proofs.Writes.{changed_there}
 use Rattle.mm_records.specs.Constants.{constants_of}
 use Rattle.mm_records.specs.Shape.{Shape, list_for}
 use Rattle.mm_records.specs.Stands.{ns_in}

@@ -1,5 +1,5 @@
 -- How many bytes are asked for: a block of a record, and an extent of a namespace (MongoDB 2.6, MMAPv1).
-use Rattle.std.specs.Prelude.{◌≡◌, ℕ, ℤ, ◌+◌, ◌*◌, ◌/◌, ◌^◌, ◌<◌, ◌≤◌, min, max, List, Option, Some, None}
+use Rattle.std.specs.Prelude.{◌≡◌, ℕ, ◌+◌, ◌*◌, ◌/◌, ◌^◌, ◌<◌, ◌≤◌, min, max, List, Option, Some, None}
 use Rattle.mm_ranges.specs.Overlay.{Image}
 use Rattle.mm_links.specs.Links.{Place, last_of}
 use Rattle.mm_extents.specs.Heap.{Heap}

@@ -1,4 +1,4 @@
-use Rattle.std.proofs.Common.{◌<◌, arith}
+use Rattle.std.proofs.Common.{arith}
 use Rattle.mm_records.proofs.Allocs.{block_low}
 use Rattle.mm_records.proofs.allocating.put_found.Goals as goal
 

@@ -1,11 +1,9 @@
-use Rattle.std.proofs.Common.{◌≡◌, ◌∙◌, ℕ, ◌+◌, ◌≤◌, List, length, Some, sym, ap, subst, arith}
+use Rattle.std.proofs.Common.{◌≡◌, ◌∙◌, ℕ, ◌+◌, List, length, sym, ap, subst, arith}
 use Rattle.std.specs.FinMap.{get}
 use Rattle.std.proofs.lemmas.Result.{on_ok_weaker, err_from_is_err_and}
 use Rattle.mm_records.proofs.LinkSteps.{same_fault}
 use Rattle.mm_links.specs.Links.{Place}
 use Rattle.mm_nstable.specs.Table.{table_of}
-use Rattle.mm_nstable.specs.Nodes.{SameNames}
-use Rattle.mm_records.specs.Constants.{constants_of, SameConstants}
 use Rattle.mm_records.specs.Stands.{ns_in}
 use Rattle.mm_records.specs.Map.{name_at}
 use Rattle.mm_extents.specs.FreeExtents.{NoExtent}

@@ -1,4 +1,4 @@
-use Rattle.std.proofs.Common.{◌≡◌, ◌∙◌, ℕ, pos, ◌*◌, ◌≤◌, rules, sym, ap, arith}
+use Rattle.std.proofs.Common.{◌∙◌, ℕ, ◌*◌, rules, sym, ap, arith}
 use Rattle.std.specs.Prelude.{FitsSigned, min}
 use Rattle.std.specs.Int.{w32}
 use Rattle.std.proofs.lemmas.Bool.{false≢true}

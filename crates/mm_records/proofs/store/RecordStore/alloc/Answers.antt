@@ -1,4 +1,4 @@
-use Rattle.std.proofs.Common.{◌≡◌, ℕ, ◌<◌, List, length, subst, arith}
+use Rattle.std.proofs.Common.{◌≡◌, ℕ, length, subst}
 use Rattle.std.proofs.lemmas.Result.{on_ok_weaker}
 use Rattle.mm_links.specs.Links.{Place}
 use Rattle.mm_extents.specs.Changes.{loc}
