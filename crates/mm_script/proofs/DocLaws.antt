@@ -3,7 +3,6 @@ use Rattle.std.proofs.Common.{◌≡◌, ℕ, ◌⊎◌, inl, inr, Bool, true, f
 use Rattle.std.specs.Prelude.{codes}
 use Rattle.std.specs.List.{list_all}
 use Rattle.std.specs.Str.{bytes_eq}
-use Rattle.std.proofs.lemmas.Slice.Eq.{bytes_eq-Decides}
 use Rattle.std.proofs.lemmas.Bool.{eqb-true, and_from, and_parts}
 use Rattle.std.proofs.lemmas.List.Sums.{list_all-from_AllPass}
 use Rattle.std.specs.List.{AllPass}
@@ -22,7 +21,7 @@ use Rattle.mm_notation.specs.Reading.{document_at as notation_of}
 use Rattle.mm_notation.proofs.Nests.{document_core}
 use Rattle.mm_script.specs.declared.fault.LineWhat.{LineWhat}
 use Rattle.mm_script.specs.declared.fault.LineWhat.TheVariants.{Document, Specification}
-use Rattle.mm_script.specs.Words.{is_space, is_other, spaces, Ends, Next}
+use Rattle.mm_script.specs.Words.{is_space, is_other, spaces, Ends}
 use Rattle.mm_script.specs.Documents.{IsHexText, NextNotation, NextDocument, IsShortSpecification}
 use Rattle.mm_script.specs.Reading.{◌>>=◌, begins_space, skip, front, behind, or_document, notation_here, notation_at, hex_of, hex_here, document_here, document_at, is_short_specification, specification_at}
 use Rattle.mm_script.proofs.SpecSteps.{short_holds, short_yes}

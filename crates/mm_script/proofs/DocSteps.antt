@@ -1,6 +1,5 @@
 -- Documents in notation: from places in a text to the text behind them.
-use Rattle.std.proofs.Common.{◌≡◌, ℕ, ◌+◌, ◌-◌, ◌<◌, ◌≤◌, List, [], ◌∷◌, ◌++◌, append_assoc, append-nil, length, take, drop, get_or, Result, Ok, Err, refl, sym, ap, ◌∙◌, subst, arith, suc}
-use Rattle.std.specs.Prelude.{slice_range}
+use Rattle.std.proofs.Common.{◌≡◌, ℕ, ◌+◌, ◌-◌, ◌≤◌, List, [], ◌∷◌, ◌++◌, append_assoc, length, take, drop, get_or, Result, Ok, Err, refl, sym, ap, ◌∙◌, subst, arith}
 use Rattle.std.specs.Str.{IsUtf8, IsCharBoundary}
 use Rattle.std.proofs.lemmas.Str.{IsCharBoundary-after_ascii}
 use Rattle.std.proofs.lemmas.List.{length-append, length-take-le, take-append-drop}
@@ -9,7 +8,6 @@ use Rattle.mm_notation.specs.Grammar.{IsDocumentText, Object, MoreMembers, Mark}
 use Rattle.mm_notation.specs.Reading.{document_at}
 use Rattle.mm_notation.specs.Answer.{IsFound, IsRefused}
 use Rattle.mm_notation.proofs.Nests.{document_core}
-use Rattle.mm_script.specs.declared.fault.LineWhat.{LineWhat}
 use Rattle.mm_script.specs.declared.fault.LineWhat.TheVariants.{Document}
 use Rattle.mm_script.specs.Reading.{or_document, notation_here}
 

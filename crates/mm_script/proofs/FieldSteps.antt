@@ -1,5 +1,5 @@
 -- Fields put behind others, one after the other.
-use Rattle.std.proofs.Common.{◌≡◌, ℕ, suc, ◌-◌, ◌<◌, ◌≤◌, max, Bool, true, false, cond, List, [], ◌∷◌, length, get_or, take, Option, Some, None, refl, sym, ap, ◌∙◌, subst, arith}
+use Rattle.std.proofs.Common.{◌≡◌, ℕ, suc, ◌-◌, ◌<◌, max, Bool, true, false, cond, List, [], ◌∷◌, length, get_or, Some, refl, sym, ap, ◌∙◌, arith}
 use Rattle.std.specs.Str.{bytes_eq}
 use Rattle.std.proofs.lemmas.List.{take_all}
 use Rattle.std.proofs.Math.Nat.{le-max_right}
@@ -9,7 +9,7 @@ use Rattle.mm_bson.specs.Tree.{Tree, Elements, no_elements, element, append, dep
 use Rattle.mm_bson.specs.View.{tree, elements_of}
 use Rattle.mm_bson.specs.Path.{find}
 use Rattle.mm_bson.proofs.Copies.{others}
-use Rattle.mm_bson.proofs.Loop.{append_assoc, append-none}
+use Rattle.mm_bson.proofs.Loop.{append_assoc}
 use Rattle.mm_model.specs.Database.{id_name}
 use Rattle.mm_model.specs.WellFormed.{begins_with_id}
 use Rattle.mm_script.specs.Documents.{without_first_id, with_id, id_in_front}

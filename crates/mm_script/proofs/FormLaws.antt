@@ -1,9 +1,8 @@
 -- What is read of a form is what the form means, and what is refused is its first fault.
-use Rattle.std.proofs.Common.{◌≡◌, ℕ, ◌⊎◌, inl, inr, Bool, true, false, List, Result, Ok, Err, refl, sym, ap, ◌∙◌, subst}
+use Rattle.std.proofs.Common.{◌≡◌, ℕ, inl, inr, Bool, true, false, List, Result, Ok, Err, refl, sym, ap, ◌∙◌, subst}
 use Rattle.mm_bson.specs.Tree.{Elements}
 use Rattle.mm_model.specs.declared.action.Action.{Action}
 use Rattle.mm_script.specs.declared.fault.LineWhat.{LineWhat}
-use Rattle.mm_script.specs.declared.fault.LineWhat.TheVariants.{Document, Specification, Word}
 use Rattle.mm_script.specs.Words.{NextWord}
 use Rattle.mm_script.specs.Documents.{NextDocument, NextNotation, IsShortSpecification}
 use Rattle.mm_script.specs.Form.{Form, ends, word, flag, document, specification, wrong, Means, FirstFault}

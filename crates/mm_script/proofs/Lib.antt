@@ -12,3 +12,13 @@ pub mod DocLaws
 pub mod FormLaws
 pub mod ScriptLaws
 pub mod ReadLaws
+pub mod Parts
+pub mod Quoted
+pub mod ReplyParts
+pub mod Shown
+pub mod ReplyLaws
+pub mod EndLaws
+pub mod GroupLaws
+pub mod RenderLaws
+pub mod WellReadLaws
+pub mod Worked

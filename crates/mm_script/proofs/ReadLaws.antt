@@ -1,5 +1,5 @@
 -- A whole script, as it is read and as it is said.
-use Rattle.std.proofs.Common.{◌≡◌, ℕ, ◌+◌, ◌<◌, ◌≤◌, ◌⊎◌, inl, inr, Bool, true, false, cond, List, [], ◌∷◌, ◌++◌, length, Option, Some, None, Result, Ok, Err, refl, sym, ap, ◌∙◌, subst, arith}
+use Rattle.std.proofs.Common.{◌≡◌, ℕ, ◌+◌, ◌≤◌, ◌⊎◌, inl, inr, Bool, true, false, cond, List, [], ◌∷◌, length, Option, Some, None, Result, Ok, Err, sym, ap, ◌∙◌, subst, arith}
 use Rattle.std.specs.Prelude.{nat_lt, ◌&&◌}
 use Rattle.std.specs.List.{cons_option, onto_first}
 use Rattle.std.proofs.lemmas.Bool.{le-ltb}
@@ -10,7 +10,7 @@ use Rattle.mm_script.specs.declared.fault.ScriptFault.{ScriptFault}
 use Rattle.mm_script.specs.declared.fault.ScriptFault.TheVariants.{Line, NoMemory}
 use Rattle.mm_script.specs.Grammar.{Setting}
 use Rattle.mm_script.specs.Lines.{is_line_end, lines, is_skipped, bytes_of}
-use Rattle.mm_script.specs.Script.{most_lines, most_bytes, IsLine, AreActions, IsScript, IsRefused, IsFirstRefused, IfLine}
+use Rattle.mm_script.specs.Script.{most_lines, most_bytes, AreActions, IsScript, IsRefused, IsFirstRefused, IfLine}
 use Rattle.mm_script.specs.Reading.{◌>>=◌, line_at, some_of, judged, numbered, script_at, Refuses}
 use Rattle.mm_script.proofs.ScriptLaws.{Whole, Good, Ended, whole_so, line_again}
 

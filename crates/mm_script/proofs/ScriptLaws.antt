@@ -1,17 +1,16 @@
 -- What is read of a script is what its lines stand for, and what is refused is the first line that a script can't have.
 use Rattle.std.proofs.Common.{◌≡◌, ℕ, ◌+◌, ◌<◌, ◌≤◌, ◌⊎◌, inl, inr, Bool, true, false, cond, List, [], ◌∷◌, ◌++◌, length, Option, Some, None, Result, Ok, Err, refl, sym, ap, ◌∙◌, subst, arith}
-use Rattle.std.specs.Prelude.{nat_lt, ◌&&◌, if◌then◌else◌}
-use Rattle.std.specs.List.{cons_option, onto_first}
+use Rattle.std.specs.Prelude.{nat_lt, ◌&&◌}
+use Rattle.std.specs.List.{cons_option}
 use Rattle.std.specs.Str.{is_utf8}
-use Rattle.std.proofs.lemmas.Bool.{ltb-true, lt-ltb, ltb-false, le-ltb, and_parts, and_from}
+use Rattle.std.proofs.lemmas.Bool.{ltb-true, lt-ltb, ltb-false, and_parts, and_from}
 use Rattle.mm_model.specs.declared.action.Action.{Action}
 use Rattle.mm_script.specs.declared.fault.LineWhat.{LineWhat}
 use Rattle.mm_script.specs.declared.fault.LineWhat.TheVariants.{Utf8, TooManyLines, TooLong}
-use Rattle.mm_script.specs.Form.{Means, FirstFault}
 use Rattle.mm_script.specs.Grammar.{Setting, line_form}
-use Rattle.mm_script.specs.Lines.{is_line_end, lines, is_skipped, bytes_of}
-use Rattle.mm_script.specs.Script.{most_lines, most_bytes, IsLine, AreActions, IsScript, HoldsTooMuch, IsWrong, IsRefused, IsFirstRefused}
-use Rattle.mm_script.specs.Reading.{◌>>=◌, read, line_at, some_of, judged, numbered, script_at}
+use Rattle.mm_script.specs.Lines.{is_skipped, bytes_of}
+use Rattle.mm_script.specs.Script.{most_lines, most_bytes, IsLine, AreActions, HoldsTooMuch, IsWrong, IsRefused}
+use Rattle.mm_script.specs.Reading.{◌>>=◌, line_at, some_of, judged, numbered, script_at}
 use Rattle.mm_script.proofs.FormLaws.{told, again, Told}
 use Rattle.mm_script.proofs.ReadSteps.{line_reads, line_fails}
 

@@ -1,8 +1,8 @@
 -- Which documents are specifications of keys.
-use Rattle.std.proofs.Common.{◌≡◌, ℕ, ◌<◌, ◌≤◌, ◌⊎◌, ◌&&◌, Bool, true, false, List, length, Option, Some, None, refl, sym, ap, ◌∙◌, arith, inl, inr, suc}
-use Rattle.std.specs.Prelude.{pos, negsuc, nat_le}
+use Rattle.std.proofs.Common.{◌≡◌, ◌≤◌, Bool, true, false, length, Option, Some, None, refl, ap, inl, inr}
+use Rattle.std.specs.Prelude.{pos, negsuc}
 use Rattle.std.proofs.lemmas.Bool.{and_parts, and_from, eqb-true, leb-true, le-leb}
-use Rattle.mm_bson.specs.Tree.{Tree, min_key, null, int32, int64, string, document, array, binary, object_id, boolean, date, timestamp, max_key, Elements, no_elements, element}
+use Rattle.mm_bson.specs.Tree.{Tree, int32, Elements, no_elements, element}
 use Rattle.mm_bson.specs.Path.{find}
 use Rattle.mm_bson.specs.Spelling.{spelling}
 use Rattle.mm_keys.specs.Specification.{IsSign, AreSigned, AreDifferent, IsSpecification, fields}

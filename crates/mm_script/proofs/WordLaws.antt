@@ -1,13 +1,13 @@
 -- The next word of a text, as it is read and as the grammar says it.
-use Rattle.std.proofs.Common.{◌≡◌, ◌≢◌, ℕ, ◌⊎◌, inl, inr, Bool, true, false, cond, not, List, [], ◌∷◌, ◌++◌, append_assoc, append-nil, Option, Some, None, Result, Ok, Err, refl, sym, ap, ◌∙◌, subst, arith, suc, zero}
+use Rattle.std.proofs.Common.{◌≡◌, ◌≢◌, ℕ, ◌⊎◌, inl, inr, Bool, true, false, cond, not, List, [], ◌∷◌, ◌++◌, append-nil, Option, Some, None, Ok, Err, refl, sym, ap, ◌∙◌, subst, suc, zero}
 use Rattle.std.specs.List.{list_all}
 use Rattle.std.specs.Str.{bytes_eq}
 use Rattle.std.proofs.lemmas.Bool.{eqb-true, and_parts, and_from}
 use Rattle.std.proofs.lemmas.Slice.Eq.{bytes_eq-Decides}
 use Rattle.mm_script.specs.declared.fault.LineWhat.{LineWhat}
 use Rattle.mm_script.specs.declared.fault.LineWhat.TheVariants.{Word}
-use Rattle.mm_script.specs.Words.{is_space, is_other, spaces, IsBlank, IsWord, Ends, Next, Is, NextWord}
-use Rattle.mm_script.specs.Reading.{begins_space, skip, front, behind, word_here, next_word, tested, part_at, flagged, flag_at, is_empty, end_at}
+use Rattle.mm_script.specs.Words.{is_space, is_other, spaces, IsBlank, IsWord, Ends, NextWord}
+use Rattle.mm_script.specs.Reading.{skip, front, behind, word_here, next_word, tested, part_at, flagged, flag_at, is_empty, end_at}
 
 pub skip_parts : (text : List ℕ) → (n : ℕ) × (text ≡ spaces n ++ skip text)
 unfolding skip

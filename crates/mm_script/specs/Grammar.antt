@@ -6,7 +6,6 @@ use Rattle.mm_model.specs.declared.action.Action.TheVariants as action
 use Rattle.mm_model.specs.declared.command.Command.{Command}
 use Rattle.mm_model.specs.declared.command.Command.TheVariants as command
 use Rattle.mm_model.specs.WellFormed.{is_collection_name, is_index_name}
-use Rattle.mm_script.specs.declared.fault.LineWhat.{LineWhat}
 use Rattle.mm_script.specs.declared.fault.LineWhat.TheVariants as what
 use Rattle.mm_script.specs.declared.commands.Place.{Place}
 use Rattle.mm_script.specs.declared.verbs.Verb.{Verb}

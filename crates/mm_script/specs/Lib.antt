@@ -9,4 +9,6 @@ pub mod Grammar
 pub mod Lines
 pub mod Script
 pub mod Reading
-pub mod Generator
+pub mod Render
+pub mod WellRead
+pub mod Examples

@@ -1,5 +1,5 @@
 -- Which words are sessions, databases and steps, and the verbs.
-use Rattle.std.specs.Prelude.{ℕ, ◌-◌, ◌&&◌, ◌==◌, Bool, true, false, not, nat_le, List, [], ◌∷◌, Option, Some, None, codes, if◌then◌else◌, position}
+use Rattle.std.specs.Prelude.{ℕ, ◌-◌, ◌&&◌, ◌==◌, Bool, false, not, nat_le, List, [], ◌∷◌, Option, Some, None, codes, if◌then◌else◌, position}
 use Rattle.std.specs.Str.{bytes_eq}
 use Rattle.mm_script.specs.declared.verbs.Verb.{Verb}
 use Rattle.mm_script.specs.declared.verbs.Verb.TheVariants as verb

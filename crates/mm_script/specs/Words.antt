@@ -1,6 +1,6 @@
 -- Lines are words parted by spaces, and documents among them. A part of a line stands behind one or more spaces; of the first part of a
 -- line this is said as if a space stood before the line.
-use Rattle.std.specs.Prelude.{◌≡◌, ◌≢◌, ℕ, suc, ◌==◌, ◌&&◌, Bool, true, false, not, List, [], ◌∷◌, ◌++◌, replicate, if◌then◌else◌}
+use Rattle.std.specs.Prelude.{◌≡◌, ◌≢◌, ℕ, suc, ◌==◌, Bool, true, not, List, [], ◌∷◌, ◌++◌, replicate}
 use Rattle.std.specs.List.{list_all}
 
 abbrev pub is_space : ℕ → Bool

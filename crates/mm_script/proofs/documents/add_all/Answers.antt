@@ -1,11 +1,8 @@
-use Rattle.std.specs.Str.{bytes_eq}
-use Rattle.std.proofs.Common.{◌≡◌, false, true, sym, ap, ◌∙◌, arith}
+use Rattle.std.proofs.Common.{◌≡◌, sym, ap, ◌∙◌, arith}
 use Rattle.mm_bson.specs.Tree.{no_elements, element, append}
 use Rattle.mm_bson.specs.View.{tree, elements_of}
 use Rattle.mm_bson.proofs.Loop.{append-none}
 use Rattle.mm_bson.proofs.Copies.{others}
-use Rattle.mm_model.specs.Database.{id_name}
-use Rattle.mm_script.specs.Documents.{without_first_id}
 use Rattle.mm_script.proofs.FieldSteps.{first_is, none_left, field_on, rest_shallow}
 use Rattle.mm_script.proofs.documents.add_all.Goals as goal
 

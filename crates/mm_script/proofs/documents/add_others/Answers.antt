@@ -1,5 +1,5 @@
 use Rattle.std.specs.Str.{bytes_eq}
-use Rattle.std.proofs.Common.{◌≡◌, false, true, sym, ap, ◌∙◌, arith}
+use Rattle.std.proofs.Common.{◌≡◌, false, sym, ap, ◌∙◌, arith}
 use Rattle.mm_bson.specs.Tree.{no_elements, element, append}
 use Rattle.mm_bson.specs.View.{tree, elements_of}
 use Rattle.mm_bson.proofs.Loop.{append-none}

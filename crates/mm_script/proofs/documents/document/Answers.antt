@@ -1,4 +1,4 @@
-use Rattle.std.proofs.Common.{◌≡◌, true, length, take, sym, ap, ◌∙◌}
+use Rattle.std.proofs.Common.{◌≡◌, true, take, sym, ap, ◌∙◌}
 use Rattle.std.specs.Prelude.{codes}
 use Rattle.std.specs.Str.{bytes_eq}
 use Rattle.mm_script.proofs.HexSteps.{hex_long}

@@ -1,4 +1,4 @@
-use Rattle.std.proofs.Common.{◌≡◌, ℕ, Ok, Err, subst, sym, ap, ◌∙◌}
+use Rattle.std.proofs.Common.{ℕ, Ok, Err, subst, sym, ap, ◌∙◌}
 use Rattle.mm_bson.specs.Tree.{Elements}
 use Rattle.mm_notation.specs.Answer.{IfRefused, IsRefused}
 use Rattle.mm_notation.specs.declared.fault.NotationFault.{NotationFault}

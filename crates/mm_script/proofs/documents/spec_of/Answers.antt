@@ -1,5 +1,4 @@
-use Rattle.std.proofs.Common.{◌≡◌, ◌≤◌, length, Err, sym, ap, ◌∙◌, arith}
-use Rattle.mm_bson.specs.Spelling.{spelling}
+use Rattle.std.proofs.Common.{length, Err, ap, arith}
 use Rattle.mm_script.proofs.SpecSteps.{short_yes, short_no}
 use Rattle.mm_script.proofs.documents.spec_of.Goals as goal
 

@@ -1,8 +1,8 @@
-use Rattle.std.proofs.Common.{rules, ◌≡◌, ◌≤◌, ◌-◌, ◌+◌, length, sym, ap, ◌∙◌, arith, refl}
+use Rattle.std.proofs.Common.{rules, ◌≡◌, ◌-◌, ◌+◌, length, sym, ap, ◌∙◌, arith, refl}
 use Rattle.mm_script.specs.Grammar.{setting}
 use Rattle.mm_script.specs.Lines.{lines}
 use Rattle.mm_script.specs.Reading.{script_at}
-use Rattle.mm_script.proofs.LoopSteps.{onto, long_is, turn, turned_down, sizes_of, all_read}
+use Rattle.mm_script.proofs.LoopSteps.{onto, long_is, turn, sizes_of, all_read}
 use Rattle.mm_script.proofs.script.actions_of.Goals as goal
 
 pub lines-preserved : goal.lines-preserved

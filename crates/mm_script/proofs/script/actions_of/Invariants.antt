@@ -1,4 +1,4 @@
-use Rattle.std.proofs.Common.{◌≡◌, ◌≤◌, ◌+◌, ◌-◌, length}
+use Rattle.std.proofs.Common.{◌≡◌, ◌≤◌, ◌-◌, length}
 use Rattle.mm_script.specs.Grammar.{setting}
 use Rattle.mm_script.specs.Lines.{lines}
 use Rattle.mm_script.specs.Reading.{script_at}

@@ -1,5 +1,4 @@
-use Rattle.std.proofs.Common.{◌≡◌, true, false, Ok, Err, sym, ap, ◌∙◌, subst, ltb}
-use Rattle.std.proofs.lemmas.Grind.{common_steps}
+use Rattle.std.proofs.Common.{◌≡◌, true, false, Ok, sym, ap, ◌∙◌, subst}
 use Rattle.mm_base.specs.Names.{IsName}
 use Rattle.mm_model.specs.WellFormed.{is_collection_name}
 use Rattle.mm_script.specs.declared.fault.LineWhat.TheVariants as what

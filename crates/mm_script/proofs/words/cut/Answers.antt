@@ -1,6 +1,4 @@
-use Rattle.std.proofs.Common.{◌≡◌, ◌<◌, length, get_or, sym, ap, ◌∙◌, subst, arith, take, drop}
-use Rattle.std.specs.Str.{IsCharBoundary}
-use Rattle.std.proofs.lemmas.Str.{IsCharBoundary-before_ascii, IsCharBoundary-end}
+use Rattle.std.proofs.Common.{◌≡◌, length, get_or, ap, ◌∙◌, arith, take, drop}
 use Rattle.std.specs.List.{position_or_len}
 use Rattle.mm_script.specs.Words.{is_space}
 use Rattle.mm_script.proofs.WordSteps.{front_is, behind_is, space_at}

@@ -1,4 +1,4 @@
-use Rattle.std.proofs.Common.{◌≡◌, length, sym, ap, ◌∙◌, arith, drop, subst, ◌<◌}
+use Rattle.std.proofs.Common.{◌≡◌, length, ap, ◌∙◌, arith, drop}
 use Rattle.std.specs.List.{position_or_len}
 use Rattle.mm_script.specs.Words.{is_other}
 use Rattle.mm_script.proofs.WordSteps.{skip_is, spaces_before, boundary_behind}

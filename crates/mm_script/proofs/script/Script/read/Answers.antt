@@ -1,4 +1,4 @@
-use Rattle.std.proofs.Common.{◌≡◌, List}
+use Rattle.std.proofs.Common.{List}
 use Rattle.mm_model.specs.declared.action.Action.{Action}
 use Rattle.mm_script.specs.Grammar.{setting}
 use Rattle.mm_script.proofs.ReadLaws.{is_script, one_script, refused_so, none_so}
