@@ -11,3 +11,4 @@ pub mod SyncRuns
 pub mod Syncs
 pub mod Least
 pub mod Nexts
+pub mod Spelled
