@@ -1,0 +1,12 @@
+//! Tests of recovery, over a disk in memory that stops where it is told to.
+//!
+//! They show what no clause says: that a recovery succeeds with ample memory, on journals whose bytes are put together here and not by
+//! the store's own writer, and what lies on the disk after it, stopped at each of its changing calls, and stopped again.
+#![tactic(auto)]
+
+#[cfg(test)]
+mod journals;
+#[cfg(test)]
+mod rows;
+#[cfg(test)]
+mod stops;
