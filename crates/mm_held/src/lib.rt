@@ -1,6 +1,7 @@
 //! One database, held: its views, its log, what each session was told of it, and what was given for each closed group.
 //!
 //! - It is proved for any `Engine`: what commands do to a database, and which image stands for it, are the engine's relations.
+//! - `Held::start` begins with loaded views. Item 0 has their files whole; where there is none, the engine's draft of a new database is adopted.
 //! - `Held::step` carries one command out: one entry in the log, one mark for its session, one note for the probe, or none of them, where the
 //!   group is full or memory is wanting; then all is as it was. A refused command changes no view.
 //! - `close`, which is `Origin`'s, gives the item of the opened group; `apply` lays closed parts over the shared image; both take no memory.
