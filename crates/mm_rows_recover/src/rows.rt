@@ -97,7 +97,9 @@ fn a_torn_section_is_none(rt: HostRuntime) -> Result<(), Fail> {
         let mut left = disk.crash(pick)?;
         let done = recover(rt.alloc(), &mut left);
         let text = format!(in rt.alloc(); "{done:?}")?;
-        let due = format!(in rt.alloc(); "Ok(Recovered {{ last: {replayed}, replayed: {replayed} }})")?;
+        let due = format!(in rt.alloc();
+            "Ok(Recovered {{ last: {replayed}, replayed: {replayed} }})"
+        )?;
         assert_eq!(rt; text.as_str(), due.as_str(), "pick {pick}");
     }
     Ok(())

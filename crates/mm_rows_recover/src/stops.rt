@@ -8,7 +8,8 @@ use std::alloc::Global;
 use std::test::Fail;
 
 /// What lies on the disk after the recovery, however often it was stopped. The lsn is that of the last section, once it is written.
-const FILES: &str = "a.0 4096 [0, 0, 120, 122, 0, 0, 0, 0, 0, 0, 0, 0]; b.ns 4096 [0, 0, 0, 0, 0, 0, 0, 0, 0, 0, 0, 0]; journal/lsn 88 [1, 0, 0, 0, 0, 0, 0, 0, 2, 0, 0, 0]; ";
+const FILES: &str =
+    "a.0 4096 [0, 0, 120, 122, 0, 0, 0, 0, 0, 0, 0, 0]; b.ns 4096 [0, 0, 0, 0, 0, 0, 0, 0, 0, 0, 0, 0]; journal/lsn 88 [1, 0, 0, 0, 0, 0, 0, 0, 2, 0, 0, 0]; ";
 
 /// A disk whose journal has two sections in two files.
 fn journal(alloc: Global) -> Result<MemDisk, Fail> {
