@@ -11,3 +11,10 @@ pub mod Thin
 pub mod Large
 pub mod Rooting
 pub mod Inserting
+pub mod Ordered
+pub mod Edits
+pub mod Steps
+pub mod Parts
+pub mod InsertCalls
+pub mod RootCalls
+pub mod Searched

@@ -123,15 +123,15 @@ weave-middle ls (d ∷ ds) ms ps rs qs e f =
 
 -- ---- order
 
-all-left : {P : Type 0} (A : P → Type 0) (xs ys : List P) → AllByRecursion A (xs ++ ys) → AllByRecursion A xs
+pub all-left : {P : Type 0} (A : P → Type 0) (xs ys : List P) → AllByRecursion A (xs ++ ys) → AllByRecursion A xs
 all-left A [] ys h = tt
 all-left A (x ∷ xs) ys h = (h.0, all-left A xs ys h.1)
 
-all-right : {P : Type 0} (A : P → Type 0) (xs ys : List P) → AllByRecursion A (xs ++ ys) → AllByRecursion A ys
+pub all-right : {P : Type 0} (A : P → Type 0) (xs ys : List P) → AllByRecursion A (xs ++ ys) → AllByRecursion A ys
 all-right A [] ys h = h
 all-right A (x ∷ xs) ys h = all-right A xs ys h.1
 
-all-both : {P : Type 0} (A : P → Type 0) (xs ys : List P) → AllByRecursion A xs → AllByRecursion A ys → AllByRecursion A (xs ++ ys)
+pub all-both : {P : Type 0} (A : P → Type 0) (xs ys : List P) → AllByRecursion A xs → AllByRecursion A ys → AllByRecursion A (xs ++ ys)
 all-both A [] ys h k = k
 all-both A (x ∷ xs) ys h k = (h.0, all-both A xs ys h.1 k)
 

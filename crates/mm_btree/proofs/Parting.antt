@@ -122,3 +122,12 @@ split_is w l r last p e alike =
           inner (without_last l last) (all_left IsPlace (children (without_last l last)) (children r) both) ∙ (take_front (children (without_last l last)) (children r) m h.count ∙ ap (take m) all),
           inner r (all_right IsPlace (children (without_last l last)) (children r) both) ∙ (drop_front (children (without_last l last)) (children r) m h.count ∙ ap (drop m) all),
         )
+
+-- both parts have children that are alike
+pub split_alike : (w l r : Contents) (last : ℕ) → IsParted w l r → last + 1 ≡ length l.pairs → AreAlike (children w) → AreAlike (children (without_last l last)) × AreAlike (children r)
+split_alike w l r last p e (inl null) =
+    let both = subst (AllByRecursion IsNull) (halves w l r last p e).kids null in
+    (inl (all_left IsNull (children (without_last l last)) (children r) both), inl (all_right IsNull (children (without_last l last)) (children r) both))
+split_alike w l r last p e (inr place) =
+    let both = subst (AllByRecursion IsPlace) (halves w l r last p e).kids place in
+    (inr (all_left IsPlace (children (without_last l last)) (children r) both), inr (all_right IsPlace (children (without_last l last)) (children r) both))

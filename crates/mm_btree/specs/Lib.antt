@@ -2,3 +2,4 @@ pub mod Nodes
 pub mod Lists
 pub mod Trees
 pub mod Changes
+pub mod Order

@@ -8,13 +8,26 @@
 //! among their neighbours (`Moved`), a bucket that waits for new pairs and children is written as one or as two (`Settling`), and two
 //! neighbours with the pair between are such a bucket (`Joined`). They hold for any buckets, wherever they lie.
 //!
-//! `laws.rt` has each of them as the contract of a function that does nothing. There is no other code here yet: the calls of a tree are
-//! to come.
+//! `laws.rt` has each of them as the contract of a function that does nothing.
+//!
+//! The calls work on any `NodeStore`, a map from places to buckets that can be read, written, and given more places. `find` gives the
+//! record of the first pair whose key is equal, and reads one path. `insert` puts a pair in its place, parting buckets up to a new root.
 #![tactic(auto)]
 
+mod adding;
+mod fault;
 mod laws;
+mod raised;
+mod search;
+mod settle;
+mod store;
+mod unique;
 
+pub use fault::TreeFault;
 pub use laws::{
     children_go_along, high_trees_are_large, neighbours_changed, order_is_kept, parted_is_split,
     rejoined, rooted, settled, stands_elsewhere, thinned_then_joined,
 };
+pub use search::find;
+pub use store::NodeStore;
+pub use unique::insert;

@@ -1,0 +1,4 @@
+use Rattle.mm_btree.proofs.search.+find.Given as goal
+
+abbrev pub decreases-find : goal.decreases-find
+decreases-find g l = l.height

@@ -1,0 +1,8 @@
+use Rattle.std.proofs.Common.{◌≡◌, take}
+use Rattle.mm_base.specs.declared.place.DiskLoc.{DiskLoc}
+use Rattle.mm_bucket.specs.Rules.{children}
+use Rattle.mm_btree.specs.Changes.{adopted}
+use Rattle.mm_btree.proofs.settle.adopt_all.Given as goal
+
+abbrev pub invariant-loop-place : goal.invariant-loop-place
+invariant-loop-place g l = (q : DiskLoc) → g.S.NodeStore.bucket_at l.store q ≡ adopted (g.S.NodeStore.bucket_at l.fn.store) (take l.place (children l.bucket)) l.up q
