@@ -1,0 +1,5 @@
+pub mod Walk
+pub mod Linked
+pub mod Listed
+pub mod Questions
+pub mod Tiles
