@@ -18,14 +18,17 @@ if_no false x y e = refl
 differ : (m n : ℕ) → (m == n) ≡ false → m ≡ n → ⊥
 differ m n e f = grind arith
 
+pub not_eq : (m n : ℕ) → m < n → (m == n) ≡ false
+not_eq m n lt = ne_eqb m n (λ e. omega (arith, lt, e))
+
 -- no gap, one block after the other
-step : (from : ℕ) (b : Block) (bs : List Block) (end : ℕ) → first_gap from (b ∷ bs) end ≡ None → (from ≡ b.0) × (first_gap (b.0 + b.1) bs end ≡ None)
+pub step : (from : ℕ) (b : Block) (bs : List Block) (end : ℕ) → first_gap from (b ∷ bs) end ≡ None → (from ≡ b.0) × (first_gap (b.0 + b.1) bs end ≡ None)
 step from b bs end e = elim (cases_Bool (from == b.0)) [
   | inl y ↦ (eqb-true from b.0 y, sym (if_yes (from == b.0) (first_gap (b.0 + b.1) bs end) (Some b.0) y) ∙ e)
   | inr n ↦ absurd (let f : Some b.0 ≡ None = sym (if_no (from == b.0) (first_gap (b.0 + b.1) bs end) (Some b.0) n) ∙ e in cc)
 ]
 
-ends : (from end : ℕ) → first_gap from [] end ≡ None → from ≡ end
+pub ends : (from end : ℕ) → first_gap from [] end ≡ None → from ≡ end
 ends from end e = elim (cases_Bool (from == end)) [
   | inl y ↦ eqb-true from end y
   | inr n ↦ absurd (let f : Some end ≡ None = sym (if_no (from == end) None (Some end) n) ∙ e in cc)

@@ -16,4 +16,4 @@ mod tiles;
 mod walk;
 
 pub use tiles::{first_gap, gap_in};
-pub use walk::{Broken, Chain, Link, follow, follow_all};
+pub use walk::{Broken, Chain, Link, follow, follow_all, key};
