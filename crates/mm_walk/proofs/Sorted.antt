@@ -22,9 +22,11 @@ same_rising (x ∷ xs) (y ∷ ys) a b f g =
     head (inl e) j = e
     head (inr i) (inl e) = sym e
     head (inr i) (inr j) = absurd (let p = b.0 x i in let q = a.0 y j in omega (arith, p, q))
+
     rest_f : (c : Block) → In c xs → x ≡ y → In c (y ∷ ys) → In c ys
     rest_f c i e (inl h) = absurd (let p = a.0 c i in let q = ap (λ (d : Block). d.0) (h ∙ sym e) in omega (arith, p, q))
     rest_f c i e (inr h) = h
+
     rest_g : (c : Block) → In c ys → x ≡ y → In c (x ∷ xs) → In c xs
     rest_g c i e (inl h) = absurd (let p = b.0 c i in let q = ap (λ (d : Block). d.0) (h ∙ e) in omega (arith, p, q))
     rest_g c i e (inr h) = h
