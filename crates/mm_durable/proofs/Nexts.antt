@@ -85,52 +85,60 @@ tells = record {
 
 -- ---- the next section
 
-parts_data : (images : Images) (parts : List Part) → PartsFit is_db_name images parts → AreData the_names (entries_of_parts disk_name parts)
-parts_data images [] fit = tt
-parts_data images (p ∷ parts) fit = data_both the_names _ _ (data_both the_names _ _ (made p.made) (pieces p.pieces)) (parts_data (with_part p images) parts fit.1.1.1)
-  where
-    made : (ms : List Made) → AreData the_names (map (λ (m : Made). let e : Entry = record { file = disk_name p.name m.file; act = Rattle.mm_crash.specs.Overlay.Makes m.len } in e) ms)
-    made [] = tt
-    made (m ∷ ms) = (is_data p.name m.file fit.0, made ms)
-
-    pieces : (ps : List Piece) → AreData the_names (map (λ (x : Piece). let e : Entry = record { file = disk_name p.name x.file; act = Rattle.mm_crash.specs.Overlay.Puts x.at x.bytes } in e) ps)
-    pieces [] = tt
-    pieces (x ∷ ps) = (is_data p.name x.file fit.0, pieces ps)
-
-module _ (story : Story) (x : Section) (images : Images) (laid : AreLaid is_db_name disk_name story.base (entries_of disk_name story.sections) images) (fit : PartsFit is_db_name images x.parts) where
-  -- all sections, that one included
-  entries_are : entries_of disk_name (story.sections ++ x ∷ []) ≡ entries_of disk_name story.sections ++ entries_of_parts disk_name x.parts
-  entries_are = entries_of-append disk_name story.sections (x ∷ []) ∙ ap (λ (l : List Entry). entries_of disk_name story.sections ++ l) (append-nil (entries_of_parts disk_name x.parts))
-
-  -- the files of the databases read their images with the section's parts
-  pub sealed_laid : AreLaid is_db_name disk_name story.base (entries_of disk_name (with_section story x).sections) (with_parts x.parts images)
-  sealed_laid = subst (λ (l : List Entry). AreLaid is_db_name disk_name story.base l (with_parts x.parts images)) (sym entries_are) (parts_laid is_db_name disk_name tells story.base x.parts (entries_of disk_name story.sections) images laid fit)
-
-  pub comes_next : the_format.can x ≡ true → x.number ≡ story.last + length story.sections + 1 → IsNext the_format the_names story x
-  comes_next can number = record {
-    can = can;
-    number = number;
-    named = subst (λ (f : List ℕ → ℕ → List ℕ). AreData the_names (entries_of_parts f x.parts)) (sym names_are) (parts_data images x.parts fit);
-    once = λ file is. subst (λ (f : List ℕ → ℕ → List ℕ). IsMadeOnce file (entries_of f (story.sections ++ x ∷ []))) (sym names_are) (sealed_laid.once file);
-    inside = λ file is. subst (λ (f : List ℕ → ℕ → List ℕ). Fits file (size (story.base file)) (entries_of f (story.sections ++ x ∷ []))) (sym names_are) (sealed_laid.inside file);
+-- the databases that are meant, each of which has a database's name
+module _ (is_db : List ℕ → Bool) (db : (n : List ℕ) → is_db n ≡ true → is_db_name n ≡ true) where
+  told_apart : TellsApart is_db disk_name
+  told_apart = record {
+    same = λ n is. tells.same n (db n is);
+    apart = λ n m is own. tells.apart n m (db n is) (db m own);
   }
 
--- ---- the section of what the databases gave for a group
+  parts_data : (images : Images) (parts : List Part) → PartsFit is_db images parts → AreData the_names (entries_of_parts disk_name parts)
+  parts_data images [] fit = tt
+  parts_data images (p ∷ parts) fit = data_both the_names _ _ (data_both the_names _ _ (made p.made) (pieces p.pieces)) (parts_data (with_part p images) parts fit.1.1.1)
+    where
+      made : (ms : List Made) → AreData the_names (map (λ (m : Made). let e : Entry = record { file = disk_name p.name m.file; act = Rattle.mm_crash.specs.Overlay.Makes m.len } in e) ms)
+      made [] = tt
+      made (m ∷ ms) = (is_data p.name m.file (db p.name fit.0), made ms)
 
-module _ (story : Story) (taken : Taken) (laid : AreLaid is_db_name disk_name story.base (entries_of disk_name story.sections) (images_of taken)) (given : List Given) (follow : AllFollow is_db_name taken given) (separate : AreApart given) (number : ℕ) where
-  abbrev pub sealed_section : Section
-  sealed_section = record { number = number; parts = sealed_parts given }
+      pieces : (ps : List Piece) → AreData the_names (map (λ (x : Piece). let e : Entry = record { file = disk_name p.name x.file; act = Rattle.mm_crash.specs.Overlay.Puts x.at x.bytes } in e) ps)
+      pieces [] = tt
+      pieces (x ∷ ps) = (is_data p.name x.file (db p.name fit.0), pieces ps)
 
-  -- it may come next
-  pub given_next : the_format.can sealed_section ≡ true → number ≡ story.last + length story.sections + 1 → IsNext the_format the_names story sealed_section
-  given_next can is = comes_next story sealed_section (images_of taken) laid (given_fit is_db_name taken given follow separate) can is
+  module _ (story : Story) (x : Section) (images : Images) (laid : AreLaid is_db disk_name story.base (entries_of disk_name story.sections) images) (fit : PartsFit is_db images x.parts) where
+    -- all sections, that one included
+    entries_are : entries_of disk_name (story.sections ++ x ∷ []) ≡ entries_of disk_name story.sections ++ entries_of_parts disk_name x.parts
+    entries_are = entries_of-append disk_name story.sections (x ∷ []) ∙ ap (λ (l : List Entry). entries_of disk_name story.sections ++ l) (append-nil (entries_of_parts disk_name x.parts))
 
-  -- and then the databases' files read what their items give, the new ones included
-  pub given_laid : AreLaid is_db_name disk_name story.base (entries_of disk_name (with_section story sealed_section).sections) (images_of (with_items given taken))
-  given_laid =
-      let all = sealed_laid story sealed_section (images_of taken) laid (given_fit is_db_name taken given follow separate) in
-      record {
-        once = all.once;
-        inside = all.inside;
-        reads = λ n is f file. all.reads n is f file ∙ ap (λ i. get i f) (given_images given taken n separate);
-      }
+    -- the files of the databases read their images with the section's parts
+    pub sealed_laid : AreLaid is_db disk_name story.base (entries_of disk_name (with_section story x).sections) (with_parts x.parts images)
+    sealed_laid = subst (λ (l : List Entry). AreLaid is_db disk_name story.base l (with_parts x.parts images)) (sym entries_are) (parts_laid is_db disk_name told_apart story.base x.parts (entries_of disk_name story.sections) images laid fit)
+
+    pub comes_next : the_format.can x ≡ true → x.number ≡ story.last + length story.sections + 1 → IsNext the_format the_names story x
+    comes_next can number = record {
+      can = can;
+      number = number;
+      named = subst (λ (f : List ℕ → ℕ → List ℕ). AreData the_names (entries_of_parts f x.parts)) (sym names_are) (parts_data images x.parts fit);
+      once = λ file is. subst (λ (f : List ℕ → ℕ → List ℕ). IsMadeOnce file (entries_of f (story.sections ++ x ∷ []))) (sym names_are) (sealed_laid.once file);
+      inside = λ file is. subst (λ (f : List ℕ → ℕ → List ℕ). Fits file (size (story.base file)) (entries_of f (story.sections ++ x ∷ []))) (sym names_are) (sealed_laid.inside file);
+    }
+
+  -- ---- the section of what the databases gave for a group
+
+  module _ (story : Story) (taken : Taken) (laid : AreLaid is_db disk_name story.base (entries_of disk_name story.sections) (images_of taken)) (given : List Given) (follow : AllFollow is_db taken given) (separate : AreApart given) (number : ℕ) where
+    abbrev pub sealed_section : Section
+    sealed_section = record { number = number; parts = sealed_parts given }
+
+    -- it may come next
+    pub given_next : the_format.can sealed_section ≡ true → number ≡ story.last + length story.sections + 1 → IsNext the_format the_names story sealed_section
+    given_next can is = comes_next story sealed_section (images_of taken) laid (given_fit is_db taken given follow separate) can is
+
+    -- and then the databases' files read what their items give, the new ones included
+    pub given_laid : AreLaid is_db disk_name story.base (entries_of disk_name (with_section story sealed_section).sections) (images_of (with_items given taken))
+    given_laid =
+        let all = sealed_laid story sealed_section (images_of taken) laid (given_fit is_db taken given follow separate) in
+        record {
+          once = all.once;
+          inside = all.inside;
+          reads = λ n is f file. all.reads n is f file ∙ ap (λ i. get i f) (given_images given taken n separate);
+        }

@@ -1,6 +1,7 @@
 -- What the log is at all times, and the fact that its calls keep.
-use Rattle.std.specs.Prelude.{List, ◌≡◌, ℕ, ◌+◌, ◌-◌, ◌<◌, ◌≤◌, ◌^◌, Bool, ◌&&◌, nat_lt, ◌==◌, length, drop, get_or, Option, Some, ◌⊎◌}
+use Rattle.std.specs.Prelude.{List, [], ◌∷◌, ◌++◌, ◌≡◌, ℕ, ◌+◌, ◌-◌, ◌<◌, ◌≤◌, ◌^◌, Bool, ◌&&◌, nat_lt, ◌==◌, length, drop, get_or, Option, Some, ◌⊎◌}
 use Rattle.mm_outside.specs.Told.{Told}
+use Rattle.mm_section.specs.declared.section.Section.{Section}
 use Rattle.mm_outside.specs.Leaves.{Leaves}
 use Rattle.mm_jfiles.specs.Files.{next_number}
 use Rattle.mm_crash.specs.Journal.{AllCan}
@@ -55,6 +56,26 @@ pub record IsSound (log : Log) : Type 0 where
   pub last : log.last ≤ 2 ^ 63
   pub limit : log.journal.limit ≤ 2 ^ 63
   pub begun : next_number log.journal ≤ synced log
+
+-- the sealed sections, the databases and where the run began are as they were
+pub record KeepsRun (old new : Log) : Type 0 where
+  pub names : new.names.items ≡ old.names.items
+  pub last : new.last ≡ old.last
+  pub sections : new.sections.items ≡ old.sections.items
+  pub dropped : new.dropped ≡ old.dropped
+
+-- one section more is sealed
+pub record HasMore (old : Log) (section : Section) (new : Log) : Type 0 where
+  pub names : new.names.items ≡ old.names.items
+  pub last : new.last ≡ old.last
+  pub sections : new.sections.items ≡ old.sections.items ++ section ∷ []
+  pub dropped : new.dropped ≡ old.dropped
+
+-- no section is sealed yet
+pub record IsBegun (names : List (List ℕ)) (last : ℕ) (log : Log) : Type 0 where
+  pub names_are : log.names.items ≡ names
+  pub last_is : log.last ≡ last
+  pub none : sealed log ≡ 0
 
 -- Where the disk tells: a run that began when t was told has these sealed sections, and these numbers at each moment.
 pub record IsKept (t : Told) (story : Story) (history : ℕ → Numbers) (log : Log) (u : Told) : Type 0 where

@@ -52,7 +52,7 @@ impl Log {
     ghost use Rattle.mm_journal.proofs.Real.{the_format, the_names};
     ghost use Rattle.mm_prefix.specs.Prefix.{Numbers, at_first};
     ghost use Rattle.mm_durable.specs.Names.{AreDatabases, ArePartsOf};
-    ghost use Rattle.mm_durable.specs.Log.{IsFloor, IsSound, IsKept, Keeps, Leaving, HasReceipt, HasNoReceipt, sealed, synced, has_pending, is_marked};
+    ghost use Rattle.mm_durable.specs.Log.{IsFloor, IsSound, IsKept, IsBegun, KeepsRun, HasMore, Keeps, Leaving, HasReceipt, HasNoReceipt, sealed, synced, has_pending, is_marked};
 
     /// A run that has no section yet, over a disk that was recovered, with this number in its lsn file.
     pub fn start(alloc: Global, names: Vec<Name>, limit: u64, last: u64) -> Result<Log, NoMemory>
@@ -61,6 +61,7 @@ impl Log {
         requires last { last ≤ 2 ^ 63 }
         requires names { AreDatabases names.items }
         ensures sound { IfOk result (λ log. IsSound log) }
+        ensures begun { IfOk result (λ log. IsBegun names.items last log) }
         ensures kept { IfOk result (λ log. (files : Files) (u : Told) → IsRecovered the_format the_names files last u → IsKept u (new_story files last) at_first log u) }
     {
         let flushed = vec![in alloc; 0; names.as_slice().len()]?;
@@ -84,6 +85,7 @@ impl Log {
         requires sound { IsSound self.old }
         ensures sound { IsSound self.new }
         ensures room { OnOk result (length self.new.sections.items < vec_capacity self.new.sections) }
+        ensures run { KeepsRun self.old self.new }
         ensures kept { (t u : Told) (story : Story) (history : ℕ → Numbers) → IsKept t story history self.old u → IsKept t story history self.new u }
     {
         self.sections.reserve(1)?;
@@ -98,6 +100,7 @@ impl Log {
         requires own { ArePartsOf self.old.names.items section.parts }
         requires few { sealed self.old + 1 < 2 ^ 32 }
         ensures sound { IsSound self.new }
+        ensures more { HasMore self.old section self.new }
         ensures kept { (t u : Told) (story : Story) (history : ℕ → Numbers) → IsKept t story history self.old u → IsNext the_format the_names story section → IsKept t (with_section story section) history self.new u }
     {
         self.sections.push_reserved(section);
@@ -161,6 +164,7 @@ impl Log {
         requires sound { IsSound self.old }
         ensures answer { IfOk result (λ logged. logged ≡ has_pending self.old) }
         ensures sound { OnOk result (IsSound self.new) }
+        ensures run { OnOk result (KeepsRun self.old self.new) }
         ensures kept { OnOk result (Keeps self.old self.new (D.told disk.old) (D.told disk.new)) }
         ensures left { OnErr result (Leaving self.old (D.told disk.old) (D.told disk.new)) }
         ensures cause { HasCause Fault (D.faults disk.old) (D.faults disk.new) result }
@@ -185,6 +189,7 @@ impl Log {
         requires sound { IsSound self.old }
         requires pending { has_pending self.old ≡ true }
         ensures sound { OnOk result (IsSound self.new) }
+        ensures run { OnOk result (KeepsRun self.old self.new) }
         ensures kept { OnOk result (Keeps self.old self.new (D.told disk.old) (D.told disk.new)) }
         ensures left { OnErr result (Leaving self.old (D.told disk.old) (D.told disk.new)) }
         ensures cause { HasCause Fault (D.faults disk.old) (D.faults disk.new) result }
@@ -206,6 +211,7 @@ impl Log {
         requires db { db < length self.old.names.items }
         requires synced { upto ≤ self.old.last + synced self.old }
         ensures sound { OnOk result (IsSound self.new) }
+        ensures run { OnOk result (KeepsRun self.old self.new) }
         ensures kept { OnOk result (Keeps self.old self.new (D.told disk.old) (D.told disk.new)) }
         ensures left { OnErr result (Leaving self.old (D.told disk.old) (D.told disk.new)) }
         ensures cause { HasCause Fault (D.faults disk.old) (D.faults disk.new) result }
@@ -233,6 +239,7 @@ impl Log {
         requires sound { IsSound self.old }
         ensures floor { OnOk result (IsFloor self.new.floor self.old) }
         ensures sound { OnOk result (IsSound self.new) }
+        ensures run { OnOk result (KeepsRun self.old self.new) }
         ensures kept { OnOk result (Keeps self.old self.new (D.told disk.old) (D.told disk.new)) }
         ensures left { OnErr result (Leaving self.old (D.told disk.old) (D.told disk.new)) }
         ensures cause { HasCause Fault (D.faults disk.old) (D.faults disk.new) result }
@@ -246,6 +253,7 @@ impl Log {
     pub fn mark_lsn<D: Disk>(&mut self, disk: &mut D) -> Result<(), Device>
         requires sound { IsSound self.old }
         ensures sound { OnOk result (IsSound self.new) }
+        ensures run { OnOk result (KeepsRun self.old self.new) }
         ensures kept { OnOk result (Keeps self.old self.new (D.told disk.old) (D.told disk.new)) }
         ensures left { OnErr result (Leaving self.old (D.told disk.old) (D.told disk.new)) }
         ensures cause { HasCause Fault (D.faults disk.old) (D.faults disk.new) result }
@@ -261,6 +269,7 @@ impl Log {
     pub fn trim<D: Disk>(&mut self, disk: &mut D) -> Result<(), Device>
         requires sound { IsSound self.old }
         ensures sound { OnOk result (IsSound self.new) }
+        ensures run { OnOk result (KeepsRun self.old self.new) }
         ensures kept { OnOk result (Keeps self.old self.new (D.told disk.old) (D.told disk.new)) }
         ensures left { OnErr result (Leaving self.old (D.told disk.old) (D.told disk.new)) }
         ensures cause { HasCause Fault (D.faults disk.old) (D.faults disk.new) result }
@@ -274,6 +283,7 @@ impl Log {
         requires sound { IsSound self.old }
         requires marked { is_marked self.old ≡ true }
         ensures sound { OnOk result (IsSound self.new) }
+        ensures run { OnOk result (KeepsRun self.old self.new) }
         ensures kept { OnOk result (Keeps self.old self.new (D.told disk.old) (D.told disk.new)) }
         ensures left { OnErr result (Leaving self.old (D.told disk.old) (D.told disk.new)) }
         ensures cause { HasCause Fault (D.faults disk.old) (D.faults disk.new) result }

@@ -1,7 +1,10 @@
-use Rattle.std.proofs.Common.{refl, ap, get_or, ◌∙◌, ℕ, List}
+use Rattle.std.proofs.Common.{refl, ap, arith, length, get_or, ◌∙◌, ℕ, List}
 use Rattle.mm_jfiles.specs.Files.{Files}
 use Rattle.mm_durable.proofs.Begins.{begins, none_flushed}
 use Rattle.mm_durable.proofs.log.Log.start.Goals as goal
+
+pub returns-clause-begun : goal.returns-clause-begun
+returns-clause-begun c = record { names_are = refl; last_is = refl; none = omega (arith, ap length c.new.ensures.items) }
 
 pub returns-clause-kept : goal.returns-clause-kept
 returns-clause-kept c = begins _ c.args.last (record {
