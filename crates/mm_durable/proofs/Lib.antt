@@ -12,3 +12,8 @@ pub mod Syncs
 pub mod Least
 pub mod Nexts
 pub mod Spelled
+pub mod Feeds
+pub mod Serving
+pub mod Reading
+pub mod Sealing
+pub mod Seals

@@ -1,15 +1,23 @@
 -- What a crash leaves of a run at each moment since its start.
-use Rattle.std.specs.Prelude.{ℕ, ◌<◌, List, length, get_or}
+use Rattle.std.specs.Prelude.{◌≡◌, ℕ, ◌+◌, ◌<◌, ◌≤◌, true, List, length, get_or}
+use Rattle.std.specs.FinMap.{get}
 use Rattle.mm_outside.specs.Image.{Image}
 use Rattle.mm_outside.specs.Told.{Told, Left}
 use Rattle.mm_outside.specs.Place.{at_moment}
+use Rattle.mm_ranges.specs.Limits.{is_file}
+use Rattle.mm_crash.specs.Recovered.{Files, Recovers}
 use Rattle.mm_crash.specs.Chance.{NoChance}
 use Rattle.mm_crash.specs.Story.{Story}
+use Rattle.mm_journal.specs.Real.{disk_name}
 use Rattle.mm_journal.proofs.Real.{the_format, the_names}
 use Rattle.mm_prefix.specs.Prefix.{Numbers, IsPrefix}
 use Rattle.mm_prefix.specs.Chain.{AreLeft, last_image, HasPrefix, HoldsSection}
+use Rattle.mm_items.specs.Given.{Taken, images_of}
 use Rattle.mm_durable.specs.Log.{IsKept, synced}
+use Rattle.mm_durable.specs.Intake.{is_ours, first_items}
+use Rattle.mm_durable.specs.Durable.{IsServed, items_of}
 use Rattle.mm_durable.specs.declared.log.Log.{Log}
+use Rattle.mm_durable.specs.declared.durable.Durable.{Durable}
 
 -- a crash at this moment of the run leaves this image, without a chance match
 pub record IsLeft (t u : Told) (m : ℕ) (image : Image) : Type 0 where
@@ -30,3 +38,17 @@ RecoversPrefix log = (t u : Told) (story : Story) (history : ℕ → Numbers) �
 abbrev pub HoldsAcknowledged : Log → Type 0
 HoldsAcknowledged log = (t u : Told) (story : Story) (history : ℕ → Numbers) → IsKept t story history log u → (n : ℕ) → n < synced log → (m : ℕ) (image : Image) → get_or log.receipts.items n 0 < m → IsLeft t u m image → (images : List Image) → AreLeft the_format the_names image images
     → HoldsSection the_format the_names story n (last_image image images)
+
+-- The image's recovery has, for all databases alike, the files that the items of as many groups give, and item 0: of those whose sections were
+-- synced, or of one more.
+pub record RecoversItems (names : List (List ℕ)) (items : Taken) (count : ℕ) (image : Image) : Type 0 where
+  pub to : ℕ
+  pub no_less : count ≤ to
+  pub no_more : to ≤ count + 1
+  pub files : Files
+  pub recovers : Recovers the_format the_names image files
+  pub reads : (n : List ℕ) → is_ours names n ≡ true → (f : ℕ) → is_file f ≡ true → files (disk_name n f) ≡ get (images_of (first_items (to + 1) items) n) f
+
+abbrev pub ServesItems : {D : Type 0} → Durable D → Type 0
+ServesItems d = (t u : Told) (story : Story) (history : ℕ → Numbers) → IsServed t u story history d.log (items_of d) → (m : ℕ) (image : Image) → IsLeft t u m image → (images : List Image) → AreLeft the_format the_names image images
+    → RecoversItems d.log.names.items (items_of d) (history m).synced (last_image image images)

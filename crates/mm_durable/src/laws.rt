@@ -1,8 +1,10 @@
 //! What a crash leaves of a run.
 
-ghost use Rattle.mm_durable.specs.Laws.{EachMomentIsPrefix, RecoversPrefix, HoldsAcknowledged};
+ghost use Rattle.mm_durable.specs.Laws.{EachMomentIsPrefix, RecoversPrefix, HoldsAcknowledged, ServesItems};
 
+use crate::durable::Durable;
 use crate::log::Log;
+use mm_outside::Disk;
 
 /// Of a run whose fact holds, where the disk tells and no torn record passes its check by chance: a crash at any moment leaves the
 /// journal without a gap, the lsn file unreadable or with a number from the marked one to the floor, and each data file as it was at the
@@ -15,4 +17,14 @@ pub fn crashes_leave_a_prefix(log: &Log)
     ensures acknowledged { HoldsAcknowledged log.now }
 {
     let _ = log.names();
+}
+
+/// Of a durable side whose fact holds, where the disk tells and no torn record passes its check by chance: what a crash at any moment
+/// leaves is recovered to the files that the items of the groups give, up to one group that is the same for all databases: the last that
+/// was synced before that moment, or the one after it. However often recovery is stopped by a crash, the next one has the same. The call
+/// does nothing.
+pub fn crashes_leave_items<D: Disk>(durable: &Durable<D>)
+    ensures items { ServesItems durable.now }
+{
+    let _ = durable.ended();
 }

@@ -6,11 +6,14 @@
 //!   alike. A call that is stopped leaves such images too.
 #![tactic(auto)]
 
+mod durable;
 mod flushing;
+mod intake;
 mod laws;
 mod log;
 mod spelling;
 mod syncing;
 
-pub use laws::crashes_leave_a_prefix;
+pub use durable::Durable;
+pub use laws::{crashes_leave_a_prefix, crashes_leave_items};
 pub use log::{Log, Receipt};

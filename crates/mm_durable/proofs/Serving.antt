@@ -1,0 +1,99 @@
+-- From the log's fact to that of the durable side.
+use Rattle.std.proofs.Common.{◌≡◌, ℕ, ◌+◌, ◌^◌, ◌<◌, ◌≤◌, ◌==◌, true, List, [], length, get_or, Option, Some, refl, sym, ◌∙◌, ap, subst, arith}
+use Rattle.std.specs.Prelude.{vec_capacity}
+use Rattle.std.proofs.lemmas.Bool.Decides.{nat_tests}
+use Rattle.std.proofs.lemmas.List.{length-map}
+use Rattle.mm_outside.specs.Told.{Told}
+use Rattle.mm_ranges.specs.declared.part.Closed.{Closed}
+use Rattle.mm_tie.specs.Ends.{taker_ring}
+use Rattle.mm_crash.specs.Story.{Story}
+use Rattle.mm_prefix.specs.Prefix.{Numbers, since}
+use Rattle.mm_items.specs.Given.{Taken}
+use Rattle.mm_durable.specs.Names.{has_name}
+use Rattle.mm_durable.specs.Log.{IsSound, KeepsRun, Keeps, Leaving, numbers, sealed}
+use Rattle.mm_durable.specs.Intake.{by_name, lists, AreRising, AreSeated, HasEntry, IsIntake, SameTaken}
+use Rattle.mm_durable.specs.Durable.{HasImages, IsServed, IsOrderly, LeavesOff, SameItems}
+use Rattle.mm_durable.specs.declared.log.Log.{Log}
+use Rattle.mm_durable.proofs.Marks.{idle}
+use Rattle.mm_durable.specs.declared.intake.Intake.{Intake}
+use Rattle.mm_durable.specs.declared.durable.Durable.{Durable}
+
+sealed_as : (old new : Log) → KeepsRun old new → sealed new ≡ sealed old
+sealed_as old new run = omega (arith, run.dropped, ap length run.sections)
+
+-- what is known of the intake doesn't change
+seats_as : (names : List (List ℕ)) (n m : ℕ) (old new : Intake) → m ≡ n → SameTaken old new → AreSeated n (by_name names (lists old)) old.sorted.items old.seats.items → AreSeated m (by_name names (lists new)) new.sorted.items new.seats.items
+seats_as names n m old new e same is =
+    subst (λ (k : ℕ). AreSeated k (by_name names (lists new)) new.sorted.items new.seats.items) (sym e)
+    (subst (λ (l : List (List Closed)). AreSeated n (by_name names l) new.sorted.items new.seats.items) (sym same.lists_same)
+    (subst (λ (l : List (List ℕ)). AreSeated n (by_name names (lists old)) l new.seats.items) (sym same.sorted)
+    (subst (AreSeated n (by_name names (lists old)) old.sorted.items) (sym same.seats) is)))
+
+items_as : (old new : Log) (a b : Intake) → KeepsRun old new → SameTaken a b → by_name new.names.items (lists b) ≡ by_name old.names.items (lists a)
+items_as old new a b run same = ap (λ (l : List (List ℕ)). by_name l (lists b)) run.names ∙ ap (λ (l : List (List Closed)). by_name old.names.items l) same.lists_same
+
+images_as : (old new : Log) (a b : Intake) → KeepsRun old new → SameTaken a b → (story : Story) → HasImages old.names.items (by_name old.names.items (lists a)) story → HasImages new.names.items (by_name new.names.items (lists b)) story
+images_as old new a b run same story is =
+    subst (λ (l : List (List ℕ)). HasImages l (by_name new.names.items (lists b)) story) (sym run.names)
+    (subst (λ (i : Taken). HasImages old.names.items i story) (sym (items_as old new a b run same)) is)
+
+-- what `Serves` says of the logs and of what was taken
+pub serves : (old new : Log) (a b : Intake) → KeepsRun old new → SameTaken a b → (before after : Option Told) → Keeps old new before after
+    → (t u : Told) (story : Story) (history : ℕ → Numbers) → before ≡ Some u → IsServed t u story history old (by_name old.names.items (lists a))
+    → (v : Told) × (after ≡ Some v) × IsServed t v story (since (length v.calls) (numbers new) history) new (by_name new.names.items (lists b))
+serves old new a b run same before after keeps t u story history is k =
+    let on = keeps t u story history is k.log_is in
+    (on.0, on.1, record { log_is = on.2; images = images_as old new a b run same story k.images })
+
+-- a device call that is stopped
+pub leaves_off : {D : Type 0} (old : Durable D) (before after : Option Told) → Leaving old.log before after → LeavesOff old before after
+leaves_off old before after left t u story history is k = left t u story history is k.log_is
+
+pub taken_same : (i : Intake) → SameTaken i i
+taken_same i = record { lists_same = refl; rooms_same = refl; rings_same = refl; sorted = refl; ranks = refl; seats = refl; parts = refl; space = refl }
+
+-- a device call leaves what was taken as it is
+pub same_items : {D : Type 0} (old new : Durable D) → KeepsRun old.log new.log → new.intake ≡ old.intake → SameItems old new
+same_items old new run e = record { run = run; same_taken = subst (SameTaken old.intake) (sym e) (taken_same old.intake) }
+
+intake_as : (names : List (List ℕ)) (n m : ℕ) (old new : Intake) → m ≡ n → SameTaken old new → IsIntake names n old → IsIntake names m new
+intake_as names n m old new e same is = record {
+  few = is.few;
+  feeds = omega (arith, is.feeds, ap length same.rings_same, length-map new.feeds.items taker_ring, length-map old.feeds.items taker_ring);
+  rooms_small = λ d lt. subst (λ (l : List ℕ). get_or l d 0 ≤ 2 ^ 32) (sym same.rooms_same) (is.rooms_small d lt);
+  rising = subst AreRising (sym same.sorted) is.rising;
+  same = λ n. ap (λ (l : List (List ℕ)). has_name l n) same.sorted ∙ is.same n;
+  count = ap length same.sorted ∙ is.count;
+  ranks = ap length same.ranks ∙ is.ranks;
+  ranked = λ d lt. ranked_as names d old.ranks.items new.ranks.items old.sorted.items new.sorted.items same.ranks same.sorted (is.ranked d lt);
+  seats = seats_as names n m old new e same is.seats;
+  room = λ h. room_as (is.room (seats_full (length old.seats.items) (length new.seats.items) (length old.sorted.items) (length new.sorted.items) (ap length same.seats) (ap length same.sorted) h));
+  entered = λ k lo hi. subst (λ (l : List (List Closed)). HasEntry names (by_name names l) k) (sym same.lists_same) (is.entered k lo (omega (arith, hi, e)));
+}
+  where
+    ranked_as : (names : List (List ℕ)) (d : ℕ) (r s : List ℕ) (a b : List (List ℕ)) → s ≡ r → b ≡ a → (get_or r d 0 < length names) × (get_or a (get_or r d 0) [] ≡ get_or names d []) → (get_or s d 0 < length names) × (get_or b (get_or s d 0) [] ≡ get_or names d [])
+    ranked_as names d r s a b e f is =
+        subst (λ (l : List ℕ). (get_or l d 0 < length names) × (get_or b (get_or l d 0) [] ≡ get_or names d [])) (sym e)
+        (subst (λ (l : List (List ℕ)). (get_or r d 0 < length names) × (get_or l (get_or r d 0) [] ≡ get_or names d [])) (sym f) is)
+
+    seats_full : (a b c d : ℕ) → b ≡ a → d ≡ c → (b == d) ≡ true → (a == c) ≡ true
+    seats_full a b c d e f h = grind (arith, nat_tests, e, f)
+
+    room_as : (old.parts.items ≡ []) × (length names ≤ vec_capacity old.parts) → (new.parts.items ≡ []) × (length names ≤ vec_capacity new.parts)
+    room_as h = (same.parts ∙ h.0, omega (arith, h.1, same.space))
+
+pub orderly : {D : Type 0} (old new : Durable D) → SameItems old new → IsOrderly old → IsSound new.log → IsOrderly new
+orderly old new same is sound = record {
+  sound = sound;
+  intake_is =
+      subst (λ (l : List (List ℕ)). IsIntake l (sealed new.log) new.intake) (sym same.run.names)
+      (intake_as old.log.names.items (sealed old.log) (sealed new.log) old.intake new.intake (sealed_as old.log new.log same.run) same.same_taken is.intake_is);
+}
+
+pub run_same : (log : Log) → KeepsRun log log
+run_same log = record { names = refl; last = refl; sections = refl; dropped = refl }
+
+-- no call is made of the disk
+pub idles : (log : Log) (a b : Intake) → IsSound log → SameTaken a b → (before : Option Told) → (t u : Told) (story : Story) (history : ℕ → Numbers) → before ≡ Some u → IsServed t u story history log (by_name log.names.items (lists a))
+    → (v : Told) × (before ≡ Some v) × IsServed t v story (since (length v.calls) (numbers log) history) log (by_name log.names.items (lists b))
+idles log a b sound same before = serves log log a b (run_same log) same before before (idle log sound before)
