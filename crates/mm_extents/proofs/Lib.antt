@@ -15,5 +15,9 @@ pub mod ReuseSteps
 pub mod Grown
 pub mod HeaderWrites
 pub mod CutSteps
+pub mod RoomFalls
 pub mod MadeFiles
 pub mod NewExtents
+pub mod Drops
+pub mod DropSteps
+pub mod DropWalks

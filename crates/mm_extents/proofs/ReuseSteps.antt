@@ -40,7 +40,7 @@ stays {X} proj g law x H q = elim (cases_Bool (same x q)) [
     opt None = refl
     opt (Some c) = law c
 
-next_passed_stays : {X : Type 0} (proj : Option Cell → X) → ((z : DiskLoc) (c : Cell) → proj (Some (xnext_set z c)) ≡ proj (Some c)) → (o : Option Place) (z : DiskLoc) (H : Heap) (q : Place) → proj (next_passed o z H q) ≡ proj (H q)
+pub next_passed_stays : {X : Type 0} (proj : Option Cell → X) → ((z : DiskLoc) (c : Cell) → proj (Some (xnext_set z c)) ≡ proj (Some c)) → (o : Option Place) (z : DiskLoc) (H : Heap) (q : Place) → proj (next_passed o z H q) ≡ proj (H q)
 next_passed_stays proj law None z H q = refl
 next_passed_stays proj law (Some x) z H q = stays proj (xnext_set z) (law z) x H q
 
@@ -48,7 +48,7 @@ prev_passed_stays : {X : Type 0} (proj : Option Cell → X) → ((z : DiskLoc) (
 prev_passed_stays proj law None z H q = refl
 prev_passed_stays proj law (Some x) z H q = stays proj (xprev_set z) (law z) x H q
 
-wl_next : (z : DiskLoc) (c : Cell) → without_links (Some (xnext_set z c)) ≡ without_links (Some c)
+pub wl_next : (z : DiskLoc) (c : Cell) → without_links (Some (xnext_set z c)) ≡ without_links (Some c)
 wl_next z (extent h) = refl
 wl_next z (live h room) = refl
 wl_next z (deleted h rest) = refl
@@ -58,7 +58,7 @@ wl_prev z (extent h) = refl
 wl_prev z (live h room) = refl
 wl_prev z (deleted h rest) = refl
 
-prev_next : (z : DiskLoc) (c : Cell) → ext_prev (Some (xnext_set z c)) ≡ ext_prev (Some c)
+pub prev_next : (z : DiskLoc) (c : Cell) → ext_prev (Some (xnext_set z c)) ≡ ext_prev (Some c)
 prev_next z (extent h) = refl
 prev_next z (live h room) = refl
 prev_next z (deleted h rest) = refl
@@ -68,7 +68,7 @@ next_prev z (extent h) = refl
 next_prev z (live h room) = refl
 next_prev z (deleted h rest) = refl
 
-wl_outline : (o : Option Cell) → option_map outline (without_links o) ≡ option_map outline o
+pub wl_outline : (o : Option Cell) → option_map outline (without_links o) ≡ option_map outline o
 wl_outline None = refl
 wl_outline (Some (extent h)) = refl
 wl_outline (Some (live h room)) = refl
@@ -87,7 +87,7 @@ extent_like (Some (extent g)) h e =
 extent_like (Some (live g r)) h e = absurd cc
 extent_like (Some (deleted g r)) h e = absurd cc
 
-not_null : (o : Option Place) → LowOr o → (x : Place) → o ≡ Some x → loc_or o ≡ null → ⊥
+pub not_null : (o : Option Place) → LowOr o → (x : Place) → o ≡ Some x → loc_or o ≡ null → ⊥
 not_null None l x e z = cc
 not_null (Some y) l x e z = (let f : pos y.0 ≡ negsuc 0 = sym (low_file y l).0 ∙ ap (λ (q : DiskLoc). q.file) z in cc)
 

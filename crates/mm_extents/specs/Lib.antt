@@ -2,6 +2,8 @@ pub mod Heap
 pub mod Changes
 pub mod Files
 pub mod Rests
+pub mod Room
 pub mod Tiling
 pub mod Chains
 pub mod FreeExtents
+pub mod Dropping

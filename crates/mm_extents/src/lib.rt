@@ -10,7 +10,9 @@
 //! - `next_extent` answers the extent behind another.
 //! - `new_extent` makes one: the first free extent that is long enough, else bytes of the last file's unused rest, else of files that it
 //!   makes, up to the eighth (`IsNewExtent`, specs/FreeExtents; `IsRest`, specs/Rests). `NoSpace` comes exactly where none of these has as
-//!   many bytes (`NoExtent`). After an error of it the draft is to be dropped.
+//!   many bytes (`NoExtent`). It never raises the room of the files, and lowers it by at most four times what is asked for (`LowersRoom`,
+//!   specs/Room). After an error of it the draft is to be dropped.
+//! - `free_extents` puts the extents of a dropped namespace behind the last free one (`AreFreed`, specs/Dropping).
 //!
 //! Where else there is no memory all is as it was. Which records and lists there are, and which bytes a payload has, is for the crates above.
 #![tactic(auto)]
@@ -18,8 +20,9 @@
 mod blocks;
 mod cells;
 mod chains;
+mod dropping;
 mod fault;
-mod free_extents;
+mod free_chain;
 mod made_files;
 mod new_extents;
 mod places;
@@ -30,6 +33,7 @@ pub use cells::{
     set_xnext, set_xprev,
 };
 pub use chains::next_extent;
+pub use dropping::free_extents;
 pub use fault::SpaceFault;
 pub use new_extents::new_extent;
 pub use places::{Spot, link, named_spot, natural, no_place, place, spot_of};

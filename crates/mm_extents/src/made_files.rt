@@ -12,6 +12,7 @@ ghost use Rattle.mm_extents.specs.Changes.{written, len_of, DeclaresAtMost};
 ghost use Rattle.mm_extents.specs.Files as files;
 ghost use Rattle.mm_extents.specs.Files.{FilesStand};
 ghost use Rattle.mm_extents.specs.Rests.{IsLast, IsRest, NoRest, IsMade};
+ghost use Rattle.mm_extents.specs.Room.{room, LowersRoom};
 ghost use Rattle.mm_extents.specs.FreeExtents.{HasFree};
 
 use crate::cells::overwrite;
@@ -74,6 +75,7 @@ fn make_file(draft: &mut Draft, file: u32) -> Result<(), NoMemory>
     ensures stands { OnOk result ((db : List ℕ) (heap : Heap) (chain : List Place) (ends : FreeEnds) → HasFree draft.old.image db heap chain ends → HasFree draft.new.image db heap chain ends) }
     ensures last { OnOk result (IsLast draft.new.image (file + 1)) }
     ensures unused { OnOk result (files.unused_in draft.new.image (file + 1) ≡ Some (pos 8192)) }
+    ensures room { OnOk result ((u : ℕ) → files.unused_in draft.old.image file ≡ Some (pos u) → room draft.old.image ≡ room draft.new.image + (files.file_len file - u)) }
     ensures ns { OnOk result (bytes_at draft.new.image NS_FILE ≡ bytes_at draft.old.image NS_FILE) }
     ensures weight { DeclaresAtMost 48 draft.old draft.new }
 {
@@ -85,10 +87,12 @@ fn make_file(draft: &mut Draft, file: u32) -> Result<(), NoMemory>
 // Makes data files behind the last one, until one has so many bytes behind its header.
 fn make_rest(draft: &mut Draft, last: u32, len: u32) -> Result<Spot, SpaceFault>
     requires last { IsLast draft.old.image last }
+    requires few { (u : ℕ) × ((files.unused_in draft.old.image last ≡ Some (pos u)) × (files.file_len last < u + len)) }
     ensures stands { OnOk result ((db : List ℕ) (heap : Heap) (chain : List Place) (ends : FreeEnds) → HasFree draft.old.image db heap chain ends → HasFree draft.new.image db heap chain ends) }
     ensures rest { IfOk result (λ at. IsRest draft.new.image (at.file, at.ofs) len) }
     ensures made { IfOk result (λ at. IsMade draft.old.image (at.file, at.ofs) len) }
     ensures full { IsErrOf result SpaceFault.NoSpace → (k : ℕ) → k < 8 → len_of draft.old.image k ≡ None → files.file_len k < 8192 + len }
+    ensures room { OnOk result (LowersRoom (3 * len) draft.old.image draft.new.image) }
     ensures ns { OnOk result (bytes_at draft.new.image NS_FILE ≡ bytes_at draft.old.image NS_FILE) }
     ensures weight { DeclaresAtMost 336 draft.old draft.new }
 {
@@ -138,6 +142,7 @@ pub(crate) fn rest_of(draft: &mut Draft, len: u32) -> Result<Spot, SpaceFault>
     ensures rest { IfOk result (λ at. IsRest draft.new.image (at.file, at.ofs) len) }
     ensures full { IsErrOf result SpaceFault.NoSpace → NoRest draft.old.image len }
     ensures some { IfOk result (λ at. NoRest draft.old.image len → ⊥) }
+    ensures room { OnOk result (LowersRoom (3 * len) draft.old.image draft.new.image) }
     ensures ns { OnOk result (bytes_at draft.new.image NS_FILE ≡ bytes_at draft.old.image NS_FILE) }
     ensures weight { DeclaresAtMost 336 draft.old draft.new }
 {

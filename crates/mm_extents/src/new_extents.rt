@@ -1,6 +1,6 @@
 //! New extents.
 
-ghost use Rattle.std.specs.Prelude.{◌≡◌, ◌≢◌, ℕ, ◌+◌, ◌-◌, ◌%◌, ◌<◌, ◌≤◌, Some, pos, true, List, Option, length, IfOk, OnOk, IsErrOf};
+ghost use Rattle.std.specs.Prelude.{◌≡◌, ◌≢◌, ℕ, ◌+◌, ◌-◌, ◌*◌, ◌%◌, ◌<◌, ◌≤◌, Some, pos, true, List, Option, length, IfOk, OnOk, IsErrOf};
 ghost use Rattle.mm_base.specs.Bytes.{part, padded};
 ghost use Rattle.mm_frames.specs.Texts.{text_in};
 ghost use Rattle.mm_ranges.specs.Overlay.{bytes_at};
@@ -13,11 +13,12 @@ ghost use Rattle.mm_extents.specs.Files.{file_len, unused_in, FilesStand};
 ghost use Rattle.mm_frames.specs.declared.free_ends.FreeEnds.{FreeEnds};
 ghost use Rattle.mm_ranges.specs.declared.limits.TheConstants.{NS_FILE};
 ghost use Rattle.mm_extents.specs.Rests.{NoRest};
+ghost use Rattle.mm_extents.specs.Room.{room, LowersRoom};
 ghost use Rattle.mm_extents.specs.FreeExtents.{IsFirstFree, AllShorter, IsMadeOf, NoExtent, IsClear, with_extent, header_made, next_passed, prev_passed, ExtentOr, PassFits, HasFree, IsReused, IsCutOff};
 
 use crate::cells::{overwrite, read_extent, set_xnext, set_xprev};
 use crate::fault::SpaceFault;
-use crate::free_extents::first_free;
+use crate::free_chain::first_free;
 use crate::made_files::{put_fields, rest_of};
 use crate::places::{Spot, named_spot, natural, no_place, place};
 use mm_base::{DiskLoc, Name, NoMemory};
@@ -77,7 +78,7 @@ pub(crate) fn put_extent(draft: &mut Draft, at: Spot, name: &Name, len: u32) -> 
 }
 
 // The link to an extent goes past it, in the extent before it.
-fn pass_next(draft: &mut Draft, before: DiskLoc, next: DiskLoc) -> Result<(), NoMemory>
+pub(crate) fn pass_next(draft: &mut Draft, before: DiskLoc, next: DiskLoc) -> Result<(), NoMemory>
     requires { (o : Option Place) × PassFits draft.old.image o before }
     ensures heap { OnOk result ((o : Option Place) (heap : Heap) → before ≡ loc_or o → LowOr o → IsHeap draft.old.image heap → ExtentOr heap o → IsHeap draft.new.image (next_passed o next heap)) }
     ensures kept { OnOk result (KeepsHeaders draft.old.image draft.new.image) }
@@ -155,6 +156,7 @@ pub(crate) fn cut_extent(draft: &mut Draft, at: Spot, name: &Name, len: u32) -> 
     requires long { 4096 ≤ len }
     ensures ok { OnOk result ((db : List ℕ) (heap : Heap) (chain : List Place) (ends : FreeEnds) → HasFree draft.old.image db heap chain ends → unused_in draft.old.image at.file ≡ Some (pos at.ofs) → name.now ≢ db
         → (t : Heap) × (HasFree draft.new.image db t chain ends × IsCutOff heap t (at.file, at.ofs) name.now len)) }
+    ensures room { OnOk result (LowersRoom len draft.old.image draft.new.image) }
     ensures ns { OnOk result (bytes_at draft.new.image NS_FILE ≡ bytes_at draft.old.image NS_FILE) }
     ensures weight { DeclaresAtMost 252 draft.old draft.new }
 {
@@ -174,6 +176,7 @@ fn reuse_new(
     ensures ok { IfOk result (λ e. (db : List ℕ) (heap : Heap) (chain : List Place) → HasFree draft.old.image db heap chain free.old → IsFirstFree heap chain len (at.file, at.ofs) → name.now ≢ db
         → IsMadeOf draft.new.image db heap chain free.new name.now len e) }
     ensures memory { IsErrOf result SpaceFault.NoSpace → ⊥ }
+    ensures room { OnOk result (room draft.new.image ≡ room draft.old.image) }
     ensures ns { OnOk result (bytes_at draft.new.image NS_FILE ≡ bytes_at draft.old.image NS_FILE) }
     ensures weight { DeclaresAtMost 592 draft.old draft.new }
 {
@@ -190,6 +193,7 @@ fn cut_new(draft: &mut Draft, name: &Name, len: u32) -> Result<DiskLoc, SpaceFau
         → IsMadeOf draft.new.image db heap chain ends name.now len e) }
     ensures full { IsErrOf result SpaceFault.NoSpace → NoRest draft.old.image len }
     ensures space { IfOk result (λ e. NoRest draft.old.image len → ⊥) }
+    ensures room { OnOk result (LowersRoom (4 * len) draft.old.image draft.new.image) }
     ensures ns { OnOk result (bytes_at draft.new.image NS_FILE ≡ bytes_at draft.old.image NS_FILE) }
     ensures weight { DeclaresAtMost 588 draft.old draft.new }
 {
@@ -200,7 +204,7 @@ fn cut_new(draft: &mut Draft, name: &Name, len: u32) -> Result<DiskLoc, SpaceFau
 
 /// A new extent of a namespace, without records, of at least `len` bytes: the first free one that is long enough, which keeps its length; else
 /// `len` bytes of the last file's unused rest; else of files that are made behind it, up to the eighth. Its whole room is one deleted block.
-/// `NoSpace` where none of these has as many. After an error the draft is to be dropped.
+/// `NoSpace` where none of these has as many. The room of the files falls by at most four times `len`. After an error the draft is to be dropped.
 pub fn new_extent(
     draft: &mut Draft,
     name: &Name,
@@ -214,6 +218,7 @@ pub fn new_extent(
         → IsMadeOf draft.new.image db heap chain free.new name.now len e) }
     ensures full { IsErrOf result SpaceFault.NoSpace → (db : List ℕ) (heap : Heap) (chain : List Place) → HasFree draft.old.image db heap chain free.old → NoExtent draft.old.image heap chain len }
     ensures space { IfOk result (λ e. (db : List ℕ) (heap : Heap) (chain : List Place) → HasFree draft.old.image db heap chain free.old → NoExtent draft.old.image heap chain len → ⊥) }
+    ensures room { OnOk result (LowersRoom (4 * len) draft.old.image draft.new.image) }
     ensures ns { OnOk result (bytes_at draft.new.image NS_FILE ≡ bytes_at draft.old.image NS_FILE) }
     ensures weight { DeclaresAtMost 592 draft.old draft.new }
 {

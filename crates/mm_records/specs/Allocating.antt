@@ -1,7 +1,9 @@
 -- What taking a place for a payload makes of a shape.
-use Rattle.std.specs.Prelude.{◌≡◌, ℕ, ◌+◌, ◌≤◌, ◌⊎◌, false, List, length, take, Some, None}
+use Rattle.std.specs.Prelude.{◌≡◌, ℕ, ◌+◌, ◌*◌, ◌≤◌, ◌⊎◌, false, List, length, take, Some, None}
 use Rattle.mm_base.specs.declared.place.DiskLoc.{DiskLoc}
+use Rattle.mm_ranges.specs.Overlay.{Image}
 use Rattle.mm_links.specs.Links.{Place, same}
+use Rattle.mm_extents.specs.Room.{room, LowersRoom}
 use Rattle.mm_records.specs.Shape.{Shape}
 use Rattle.mm_records.specs.Map.{live_at}
 use Rattle.mm_records.specs.Searching.{NoBlock, IsChosen}
@@ -28,3 +30,8 @@ pub record IsAllocated (s t : Shape) (free name : List ℕ) (p : Place) (r : ℕ
   pub before : DiskLoc
   pub chosen : IsChosen grown name r list before p
   pub added : IsAdded grown t name p r (16 + length chosen.rest) payload
+
+-- What taking a place for r bytes costs the room of the files: nothing where a block of the namespace has r bytes; else at most four times the length of the extent that is added.
+pub record PaysRoom (s : Shape) (name : List ℕ) (r : ℕ) (old new : Image) : Type 0 where
+  pub nothing : (NoBlock s name r → ⊥) → room new ≡ room old
+  pub most : LowersRoom (4 * extent_len s name r) old new

@@ -3,7 +3,8 @@
 ghost use Rattle.std.specs.Prelude.{◌≡◌, ℕ, ◌+◌, ◌≤◌, List, Some, length, OnOk};
 ghost use Rattle.std.specs.FinMap.{get};
 ghost use Rattle.mm_base.specs.Bytes.{overwritten};
-ghost use Rattle.mm_extents.specs.Changes.{DeclaresAtMost};
+ghost use Rattle.mm_extents.specs.Changes.{KeepsHeaders, DeclaresAtMost};
+ghost use Rattle.mm_extents.specs.Room.{room};
 ghost use Rattle.mm_nstable.specs.Nodes.{SameNames};
 ghost use Rattle.mm_nstable.specs.Table.{Held, table_of};
 ghost use Rattle.mm_records.specs.Constants.{constants_of, SameConstants};
@@ -39,7 +40,7 @@ fn cut(
     requires live { (free : List ℕ) × ((s : Shape) × ((room : List ℕ) × (StandsWith draft.old.image free s node counts.old × ((live_at s (name_at draft.old.image node) (at.file, at.ofs) ≡ Some room) × (len ≤ 16 + length room))))) }
     ensures ok { OnOk result ((free : List ℕ) (s : Shape) (room : List ℕ) → StandsWith draft.old.image free s node counts.old → live_at s (name_at draft.old.image node) (at.file, at.ofs) ≡ Some room → len ≤ 16 + length room
         → (t : Shape) × (StandsWith draft.new.image free t node counts.new × IsCut s t (name_at draft.old.image node) (at.file, at.ofs) len room)) }
-    ensures ns { OnOk result (ns_in draft.new.image ≡ ns_in draft.old.image) }
+    ensures kept { OnOk result (KeepsHeaders draft.old.image draft.new.image) }
     ensures constants { OnOk result (constants_of counts.new ≡ constants_of counts.old) }
     ensures weight { DeclaresAtMost 56 draft.old draft.new }
 {
@@ -64,6 +65,7 @@ fn put_payload(
     ensures constants { OnOk result (((held : Held) → get (table_of (ns_in draft.old.image)) (name_at draft.old.image node) ≡ Some held → constants_of held.details ≡ constants_of counts)
         → SameConstants (ns_in draft.old.image) (ns_in draft.new.image)) }
     ensures names { OnOk result (SameNames (ns_in draft.old.image) (ns_in draft.new.image)) }
+    ensures files { OnOk result (room draft.new.image ≡ room draft.old.image) }
     ensures weight { DeclaresAtMost (508 + (length payload.now + 12)) draft.old draft.new }
 {
     put_node(draft, node, counts)?;
@@ -87,6 +89,7 @@ pub(crate) fn put_record(
     ensures constants { OnOk result (((held : Held) → get (table_of (ns_in draft.old.image)) (name_at draft.old.image node) ≡ Some held → constants_of held.details ≡ constants_of counts)
         → SameConstants (ns_in draft.old.image) (ns_in draft.new.image)) }
     ensures names { OnOk result (SameNames (ns_in draft.old.image) (ns_in draft.new.image)) }
+    ensures files { OnOk result (room draft.new.image ≡ room draft.old.image) }
     ensures weight { DeclaresAtMost (length payload.now + 1008) draft.old draft.new }
 {
     let mut counts = counts;

@@ -1,9 +1,10 @@
 //! Taking a place for a payload.
 
-ghost use Rattle.std.specs.Prelude.{◌≡◌, ℕ, ◌+◌, ◌≤◌, List, Some, length, IfOk, OnOk, IsErrOf};
+ghost use Rattle.std.specs.Prelude.{◌≡◌, ℕ, ◌+◌, ◌*◌, ◌≤◌, List, Some, length, IfOk, OnOk, IsErrOf};
 ghost use Rattle.std.specs.FinMap.{get};
 ghost use Rattle.mm_links.specs.Links.{Place};
 ghost use Rattle.mm_extents.specs.Changes.{loc, DeclaresAtMost};
+ghost use Rattle.mm_extents.specs.Room.{room, LowersRoom};
 ghost use Rattle.mm_nstable.specs.Nodes.{SameNames};
 ghost use Rattle.mm_nstable.specs.Table.{Held, table_of};
 ghost use Rattle.mm_records.specs.Constants.{constants_of, SameConstants};
@@ -14,7 +15,8 @@ ghost use Rattle.mm_records.specs.InHand.{StandsWith};
 ghost use Rattle.mm_records.specs.Searching.{NoBlock, IsChosen};
 ghost use Rattle.mm_records.specs.Adding.{IsAdded};
 ghost use Rattle.mm_records.specs.Asking.{NoFit};
-ghost use Rattle.mm_records.specs.Allocating.{IsAllocated};
+ghost use Rattle.mm_records.specs.Asking as asked;
+ghost use Rattle.mm_records.specs.Allocating.{IsAllocated, PaysRoom};
 
 use crate::adding::put_record;
 use crate::asking::extent_len;
@@ -45,6 +47,7 @@ fn put_found(
     ensures constants { OnOk result (((held : Held) → get (table_of (ns_in draft.old.image)) (name_at draft.old.image node) ≡ Some held → constants_of held.details ≡ constants_of counts)
         → SameConstants (ns_in draft.old.image) (ns_in draft.new.image)) }
     ensures names { OnOk result (SameNames (ns_in draft.old.image) (ns_in draft.new.image)) }
+    ensures files { OnOk result (room draft.new.image ≡ room draft.old.image) }
     ensures weight { DeclaresAtMost (length payload.now + 1008) draft.old draft.new }
 {
     put_record(draft, node, counts, block, len, payload)?;
@@ -70,6 +73,7 @@ fn put_new(
     ensures constants { OnOk result (((held : Held) → get (table_of (ns_in draft.old.image)) (name_at draft.old.image node) ≡ Some held → constants_of held.details ≡ constants_of counts)
         → SameConstants (ns_in draft.old.image) (ns_in draft.new.image)) }
     ensures names { OnOk result (SameNames (ns_in draft.old.image) (ns_in draft.new.image)) }
+    ensures room { OnOk result ((free : List ℕ) (s : Shape) → StandsWith draft.old.image free s node counts → LowersRoom (4 * asked.extent_len s (name_at draft.old.image node) len) draft.old.image draft.new.image) }
     ensures weight { DeclaresAtMost (length payload.now + 2512) draft.old draft.new }
 {
     let mut counts = counts;
@@ -98,6 +102,7 @@ pub(crate) fn add_record(
     ensures space { OnOk result ((free : List ℕ) (s : Shape) → Stands draft.old.image free s → IsNode draft.old.image free node → NoFit draft.old.image s free (name_at draft.old.image node) len → ⊥) }
     ensures constants { OnOk result (SameConstants (ns_in draft.old.image) (ns_in draft.new.image)) }
     ensures names { OnOk result (SameNames (ns_in draft.old.image) (ns_in draft.new.image)) }
+    ensures room { OnOk result ((free : List ℕ) (s : Shape) → Stands draft.old.image free s → IsNode draft.old.image free node → PaysRoom s (name_at draft.old.image node) len draft.old.image draft.new.image) }
     ensures weight { DeclaresAtMost (length payload.now + 2512) draft.old draft.new }
 {
     let counts = details(draft, node);

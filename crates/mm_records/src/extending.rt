@@ -1,11 +1,12 @@
 //! Adding an extent to a namespace.
 
-ghost use Rattle.std.specs.Prelude.{◌≡◌, ◌≢◌, ℕ, ℤ, pos, ◌+◌, ◌-◌, ◌%◌, ◌^◌, ◌<◌, ◌≤◌, ◌==◌, false, List, Option, Some, IfOk, OnOk, IsErrOf, IsTrue, slice_index_or};
+ghost use Rattle.std.specs.Prelude.{◌≡◌, ◌≢◌, ℕ, ℤ, pos, ◌+◌, ◌-◌, ◌*◌, ◌%◌, ◌^◌, ◌<◌, ◌≤◌, ◌==◌, false, List, Option, Some, IfOk, OnOk, IsErrOf, IsTrue, slice_index_or};
 ghost use Rattle.std.specs.FinMap.{get};
 ghost use Rattle.mm_base.specs.Places.{null};
 ghost use Rattle.mm_links.specs.Links.{Place};
 ghost use Rattle.mm_extents.specs.Heap.{Heap, IsHeap};
 ghost use Rattle.mm_extents.specs.Changes.{loc, loc_or, LowOr, behind_of, KeepsHeaders, DeclaresAtMost};
+ghost use Rattle.mm_extents.specs.Room.{LowersRoom};
 ghost use Rattle.mm_extents.specs.FreeExtents.{next_passed, ExtentOr, NoExtent};
 ghost use Rattle.mm_nstable.specs.Nodes.{IsTable, SameNames, is_used};
 ghost use Rattle.mm_nstable.specs.Changes.{ns_of};
@@ -104,6 +105,7 @@ pub(crate) fn add_extent(
     ensures constants { OnOk result (constants_of counts.new ≡ constants_of counts.old) }
     ensures same { OnOk result (SameConstants (ns_in draft.old.image) (ns_in draft.new.image)) }
     ensures names { OnOk result (SameNames (ns_in draft.old.image) (ns_in draft.new.image)) }
+    ensures room { OnOk result (LowersRoom (4 * len) draft.old.image draft.new.image) }
     ensures weight { DeclaresAtMost 1504 draft.old draft.new }
 {
     let name = name_of(draft, node);

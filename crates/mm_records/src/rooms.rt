@@ -3,7 +3,7 @@
 ghost use Rattle.std.specs.Prelude.{◌≡◌, ℕ, ◌+◌, ◌<◌, ◌≤◌, ◌++◌, List, length, OnOk, OnErr};
 ghost use Rattle.mm_base.specs.Bytes.{part, overwritten};
 ghost use Rattle.mm_ranges.specs.Overlay.{bytes_at};
-ghost use Rattle.mm_extents.specs.Changes.{DeclaresAtMost};
+ghost use Rattle.mm_extents.specs.Changes.{KeepsHeaders, DeclaresAtMost};
 ghost use Rattle.mm_records.specs.Shape.{Shape};
 ghost use Rattle.mm_records.specs.Stands.{Stands, IsOwn, ns_in};
 ghost use Rattle.mm_records.specs.Map.{IsRewritten};
@@ -53,6 +53,7 @@ pub(crate) fn overwrite_room(
     ensures stands { OnOk result ((free : List ℕ) (s : Shape) (own : IsOwn draft.old.image free s node (at.file, at.ofs)) → from + length bytes.now ≤ length own.room
         → (t : Shape) × (Stands draft.new.image free t × IsRewritten s t (at.file, at.ofs) (overwritten from bytes.now own.room))) }
     ensures ns { OnOk result (ns_in draft.new.image ≡ ns_in draft.old.image) }
+    ensures kept { OnOk result (KeepsHeaders draft.old.image draft.new.image) }
     ensures weight { DeclaresAtMost (length bytes.now + 12) draft.old draft.new }
 {
     let _node = node;

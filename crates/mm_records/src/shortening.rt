@@ -2,10 +2,9 @@
 
 ghost use Rattle.std.specs.Prelude.{◌≡◌, ℕ, ℤ, pos, ◌+◌, ◌^◌, ◌<◌, ◌≤◌, ◌==◌, false, List, Some, length, OnOk, slice_index_or};
 ghost use Rattle.mm_base.specs.Places.{null};
-ghost use Rattle.mm_extents.specs.Changes.{loc, DeclaresAtMost};
+ghost use Rattle.mm_extents.specs.Changes.{loc, KeepsHeaders, DeclaresAtMost};
 ghost use Rattle.mm_records.specs.Constants.{constants_of};
 ghost use Rattle.mm_records.specs.Shape.{Shape};
-ghost use Rattle.mm_records.specs.Stands.{ns_in};
 ghost use Rattle.mm_records.specs.Map.{live_at, name_at};
 ghost use Rattle.mm_records.specs.InHand.{StandsWith};
 ghost use Rattle.mm_records.specs.Shortening.{CanCut, IsShortened};
@@ -46,7 +45,7 @@ pub(crate) fn shorten(
     requires { (free : List ℕ) × ((s : Shape) × ((room : List ℕ) × (StandsWith draft.old.image free s node counts.old × ((live_at s (name_at draft.old.image node) (at.file, at.ofs) ≡ Some room) × CanCut len (16 + length room))))) }
     ensures ok { OnOk result ((free : List ℕ) (s : Shape) (room : List ℕ) → StandsWith draft.old.image free s node counts.old → live_at s (name_at draft.old.image node) (at.file, at.ofs) ≡ Some room → CanCut len (16 + length room)
         → (t : Shape) × (StandsWith draft.new.image free t node counts.new × IsShortened s t (name_at draft.old.image node) (at.file, at.ofs) len room)) }
-    ensures ns { OnOk result (ns_in draft.new.image ≡ ns_in draft.old.image) }
+    ensures kept { OnOk result (KeepsHeaders draft.old.image draft.new.image) }
     ensures constants { OnOk result (constants_of counts.new ≡ constants_of counts.old) }
     ensures weight { DeclaresAtMost 56 draft.old draft.new }
 {

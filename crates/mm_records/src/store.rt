@@ -10,7 +10,7 @@ ghost use Rattle.mm_records.specs.Constants.{SameConstants};
 ghost use Rattle.mm_records.specs.Shape.{Shape};
 ghost use Rattle.mm_records.specs.Stands.{Stands, IsNode, ns_in, walk};
 ghost use Rattle.mm_records.specs.Asking.{IsAsked, NoFit};
-ghost use Rattle.mm_records.specs.Allocating.{IsAllocated};
+ghost use Rattle.mm_records.specs.Allocating.{IsAllocated, PaysRoom};
 ghost use Rattle.mm_records.specs.declared.asking.Request.TheVariants.{Bucket};
 ghost use Rattle.mm_records.specs.Map.{HasRecord, IsFreed, IsRewritten, name_at};
 
@@ -42,7 +42,8 @@ impl RecordStore {
     }
 
     /// Takes a place for a payload and writes it there: the map has one more pair, at a place that no map had. `request` says what the block is
-    /// asked for; a bucket has at most 8192 bytes. `NoSpace` exactly where the payload fits nowhere; after an error the draft is to be dropped.
+    /// asked for; a bucket has at most 8192 bytes. The room of the files falls by at most four times the length of the extent that is added, where
+    /// one is. `NoSpace` exactly where the payload fits nowhere; after an error the draft is to be dropped.
     pub fn alloc(
         &self,
         draft: &mut Draft,
@@ -59,6 +60,8 @@ impl RecordStore {
             → NoFit draft.old.image s free (name_at draft.old.image self.now.node) r → ⊥) }
         ensures constants { OnOk result (SameConstants (ns_in draft.old.image) (ns_in draft.new.image)) }
         ensures names { OnOk result (SameNames (ns_in draft.old.image) (ns_in draft.new.image)) }
+        ensures room { OnOk result ((free : List ℕ) (s : Shape) (r : ℕ) → Stands draft.old.image free s → IsNode draft.old.image free self.now.node → IsAsked request (length payload.now) r
+            → PaysRoom s (name_at draft.old.image self.now.node) r draft.old.image draft.new.image) }
         ensures weight { DeclaresAtMost (length payload.now + 2512) draft.old draft.new }
     {
         if payload.len() > MAX_PAYLOAD_LEN {

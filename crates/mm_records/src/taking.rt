@@ -10,7 +10,6 @@ ghost use Rattle.mm_extents.specs.Heap.{Heap, extent, IsHeap};
 ghost use Rattle.mm_extents.specs.Changes.{loc_or, ofs_or, LowOr, KeepsHeaders, DeclaresAtMost};
 ghost use Rattle.mm_records.specs.Constants.{constants_of};
 ghost use Rattle.mm_records.specs.Shape.{Shape};
-ghost use Rattle.mm_records.specs.Stands.{ns_in};
 ghost use Rattle.mm_records.specs.Map.{name_at};
 ghost use Rattle.mm_records.specs.InHand.{StandsWith};
 ghost use Rattle.mm_records.specs.Searching.{IsChosen};
@@ -81,7 +80,7 @@ pub(crate) fn take_block(
     requires { (free : List ℕ) × ((s : Shape) × ((r : ℕ) × (StandsWith draft.old.image free s node counts.old × IsChosen s (name_at draft.old.image node) r block.list block.before (block.at.file, block.at.ofs)))) }
     ensures ok { OnOk result ((free : List ℕ) (s : Shape) (r : ℕ) → StandsWith draft.old.image free s node counts.old → (b : IsChosen s (name_at draft.old.image node) r block.list block.before (block.at.file, block.at.ofs))
         → (t : Shape) × (StandsWith draft.new.image free t node counts.new × IsTaken s t (name_at draft.old.image node) (block.at.file, block.at.ofs) b.rest)) }
-    ensures ns { OnOk result (ns_in draft.new.image ≡ ns_in draft.old.image) }
+    ensures kept { OnOk result (KeepsHeaders draft.old.image draft.new.image) }
     ensures constants { OnOk result (constants_of counts.new ≡ constants_of counts.old) }
     ensures weight { DeclaresAtMost 432 draft.old draft.new }
 {

@@ -1,6 +1,18 @@
+use Rattle.std.proofs.Common.{◌≡◌, ◌+◌, ◌*◌, ◌<◌, refl, arith}
 use Rattle.mm_extents.proofs.MadeFiles.{some_other}
 use Rattle.mm_extents.proofs.NewExtents.{both_hold}
+use Rattle.mm_extents.proofs.RoomFalls.{lowers_none}
 use Rattle.mm_extents.proofs.made_files.rest_of.Goals as goal
 
 pub returns-clause-some : goal.returns-clause-some
 returns-clause-some c = both_hold c.make_rest.result c.make_rest.ensures.rest c.make_rest.ensures.made (λ at rest made. some_other c.args.draft.now.image c.args.len (at.file, at.ofs) rest.low made rest.fits)
+
+pub make_rest-requires-clause-few : goal.make_rest-requires-clause-few
+make_rest-requires-clause-few c =
+    let few = c.if-file_len-ofs.false in
+    let is = c.file_len.ensures.is in
+    let to = c.unused_ofs-ofs.ensures.to in
+    (c.unused_ofs-ofs.result, (c.unused_ofs-ofs.ensures.is, omega (arith, few, is, to)))
+
+pub returns-then-file_len-ofs-clause-room : goal.returns-then-file_len-ofs-clause-room
+returns-then-file_len-ofs-clause-room c = lowers_none _ _ (3 * c.args.len) refl

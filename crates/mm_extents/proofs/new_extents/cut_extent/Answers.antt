@@ -14,7 +14,9 @@ use Rattle.mm_extents.proofs.FileLaws.{file_len_most}
 use Rattle.mm_extents.proofs.Headers.{unused_from, long_there}
 use Rattle.mm_extents.proofs.HeaderWrites.{header_long, zeros_there}
 use Rattle.mm_ranges.specs.declared.limits.TheConstants.{NS_FILE}
-use Rattle.mm_extents.proofs.Writes.{laid_elsewhere}
+use Rattle.mm_extents.specs.Changes.{len_of}
+use Rattle.mm_extents.proofs.Writes.{laid_elsewhere, len_laid}
+use Rattle.mm_extents.proofs.RoomFalls.{unused_kept, cut_lowers}
 use Rattle.mm_extents.proofs.MadeFiles.{ns_apart}
 use Rattle.mm_extents.proofs.BlockWrites.{long_laid}
 use Rattle.mm_extents.proofs.FreeWalks.{both_ok}
@@ -104,3 +106,25 @@ pub returns-clause-ns : goal.returns-clause-ns
 returns-clause-ns c = on_ok_weaker c.put_extent.result (λ k.
     k.ns ∙ ap (λ (d : Drafting). bytes_at d.image NS_FILE) c.in_ok-put_fields.ensures.ok
     ∙ laid_elsewhere c.args.draft.now.image c.args.at.file 0 NS_FILE (take 24 (file_header_bytes (header_with c.args.at.file (c.args.at.ofs + c.args.len)))) (ns_apart c.args.at.file c.requires.file)) c.put_extent.ensures.kept
+
+pub returns-clause-room : goal.returns-clause-room
+returns-clause-room c =
+    let e : Place = (c.args.at.file, c.args.at.ofs) in
+    let n = c.args.len in
+    let f = c.requires.rest.1.1.1.1.0 in
+    let known = c.requires.rest.1.1.1.1.1 in
+    let long = long_there c.args.draft.now.image c.args.at.file (file_len c.args.at.file) c.requires.there in
+    let fits = c.requires.fits in
+    let from = unused_from c.args.draft.now.image e.0 (file_len e.0) e.1 f.files c.requires.file c.requires.there known in
+    let l = c.requires.long in
+    let bytes = take 24 (file_header_bytes (header_with e.0 (e.1 + n))) in
+    let hl = header_long e.0 (e.1 + n) in
+    let tl = length-take-le 24 (file_header_bytes (header_with e.0 (e.1 + n))) (omega (arith, hl)) in
+    let mid : c.put_fields.«new».draft.image ≡ laid e.0 0 bytes c.args.draft.now.image = ap (λ (d : Drafting). d.image) c.in_ok-put_fields.ensures.ok in
+    let there : 8192 ≤ length (bytes_at c.args.draft.now.image e.0) = omega (arith, long, from, fits) in
+    let header : part 0 8192 (bytes_at (laid e.0 0 bytes c.args.draft.now.image) e.0) ≡ file_header_bytes (header_with e.0 (e.1 + n)) = ap (λ (i : Image). part 0 8192 (bytes_at i e.0)) (sym mid) ∙ c.in_ok-put_fields.ensures.header in
+    let un1 = ap (λ (i : Image). unused_in i e.0) mid ∙ unused_now c.args.draft.now.image e.0 e.1 n f.files c.requires.file known (omega (arith, from)) fits bytes (omega (arith, tl)) (omega (arith, tl)) c.requires.there there header in
+    let un2 : (g : ℕ) → (g == e.0) ≡ false → unused_in c.put_fields.«new».draft.image g ≡ unused_in c.args.draft.now.image g = λ g m. ap (λ (i : Image). unused_in i g) mid ∙ unused_off c.args.draft.now.image e.0 e.1 n f.files c.requires.file known (omega (arith, from)) fits bytes (omega (arith, tl)) (omega (arith, tl)) c.requires.there there header g m in
+    let lens : (g : ℕ) → len_of c.put_fields.«new».draft.image g ≡ len_of c.args.draft.now.image g = λ g. ap (λ (i : Image). len_of i g) mid ∙ len_laid c.args.draft.now.image e.0 0 bytes g (omega (arith, tl)) (omega (arith, tl, there)) in
+    on_ok_weaker c.put_extent.result (λ k. cut_lowers c.args.draft.now.image c.put_extent.«new».draft.image e.0 e.1 n (λ g. k.lengths g ∙ lens g)
+    (λ g m. unused_kept c.put_fields.«new».draft.image c.put_extent.«new».draft.image k g ∙ un2 g m) known (unused_kept c.put_fields.«new».draft.image c.put_extent.«new».draft.image k e.0 ∙ un1)) c.put_extent.ensures.kept

@@ -1,5 +1,6 @@
-use Rattle.std.proofs.Common.{arith}
+use Rattle.std.proofs.Common.{◌*◌, arith}
 use Rattle.mm_extents.proofs.FileLaws.{file_len_most}
+use Rattle.mm_extents.proofs.RoomFalls.{lowers_both}
 use Rattle.mm_extents.proofs.NewExtents.{of_cut, page_least}
 use Rattle.mm_extents.proofs.new_extents.cut_new.Goals as goal
 
@@ -21,3 +22,6 @@ pub returns-clause-ok : goal.returns-clause-ok
 returns-clause-ok c = λ db heap chain ends f short isnt.
     let t = c.in_ok-cut_extent.ensures.ok db heap chain ends (c.in_ok-at.ensures.stands db heap chain ends f) c.in_ok-at.ensures.rest.unused isnt in
     of_cut c.cut_extent.«new».draft.image db heap t.0 chain ends c.args.name.now c.args.len (c.in_ok-at.at.file, c.in_ok-at.at.ofs) c.place.result c.place.ensures short t.1.0 t.1.1
+
+pub returns-clause-room : goal.returns-clause-room
+returns-clause-room c = lowers_both _ _ _ (3 * c.args.len) c.args.len (4 * c.args.len) c.in_ok-at.ensures.room c.in_ok-cut_extent.ensures.room (omega arith)

@@ -1,3 +1,6 @@
+use Rattle.std.proofs.Common.{◌*◌}
+use Rattle.std.proofs.lemmas.Result.{on_ok_weaker}
+use Rattle.mm_extents.proofs.RoomFalls.{lowers_none}
 use Rattle.mm_extents.proofs.NewExtents.{not_shorter, holds_of, holds_anyway}
 use Rattle.mm_extents.proofs.new_extents.new_extent.Goals as goal
 
@@ -18,3 +21,6 @@ returns-in-None-clause-ok c = holds_of c.cut_new.result c.cut_new.ensures.ok (λ
 
 pub returns-in-None-clause-full : goal.returns-in-None-clause-full
 returns-in-None-clause-full c = λ e db heap chain f. record { short = c.in-None.ensures.none db heap chain f; no_rest = c.cut_new.ensures.full e }
+
+pub returns-in-Some-clause-room : goal.returns-in-Some-clause-room
+returns-in-Some-clause-room c = on_ok_weaker c.reuse_new.result (λ e. lowers_none c.args.draft.now.image c.reuse_new.«new».draft.image (4 * c.args.len) e) c.reuse_new.ensures.room

@@ -1,4 +1,5 @@
 use Rattle.std.proofs.Common.{arith}
+use Rattle.mm_extents.proofs.RoomFalls.{room_kept}
 use Rattle.mm_extents.proofs.NewExtents.{first_on, first_low, of_reused}
 use Rattle.mm_extents.proofs.new_extents.reuse_new.Goals as goal
 
@@ -15,3 +16,6 @@ pub returns-clause-ok : goal.returns-clause-ok
 returns-clause-ok c = λ db heap chain f x isnt.
     let t = c.in_ok-reuse_extent.ensures.ok db heap chain f (first_on heap chain c.args.len (c.args.at.file, c.args.at.ofs) x) isnt in
     of_reused c.reuse_extent.«new».draft.image db heap t.0 chain c.reuse_extent.«new».free c.args.name.now c.args.len t.1.0 (c.args.at.file, c.args.at.ofs) c.place.result c.place.ensures x t.1.1.0 t.1.1.1
+
+pub returns-clause-room : goal.returns-clause-room
+returns-clause-room c = room_kept _ _ c.in_ok-reuse_extent.ensures.kept

@@ -1,4 +1,4 @@
-use Rattle.std.proofs.Common.{◌≡◌, ◌∙◌, ◌+◌, ◌≤◌, length, rules, sym, arith}
+use Rattle.std.proofs.Common.{◌≡◌, ◌∙◌, ◌+◌, ◌≤◌, length, rules, refl, sym, arith}
 use Rattle.std.specs.Prelude.{FitsSigned}
 use Rattle.std.specs.Int.{w32}
 use Rattle.std.proofs.lemmas.Int.{to_z-of_z}
@@ -51,3 +51,6 @@ returns-clause-ok c = on_ok_weaker c.shorten.result (λ g free s room st lv le.
     let long : c.args.len + 32 ≤ 16 + length room = omega (arith, same, more) in
     let t = g free s room st lv (record { front = c.requires.front; rest = long }) in
     (t.0, (t.1.0, cut_short s t.0 (name_at c.args.draft.now.image c.args.node) (c.args.at.file, c.args.at.ofs) c.args.len room long t.1.1))) c.shorten.ensures.ok
+
+pub returns-then-whole-len-lt-MIN_BLOCK_LEN-clause-kept : goal.returns-then-whole-len-lt-MIN_BLOCK_LEN-clause-kept
+returns-then-whole-len-lt-MIN_BLOCK_LEN-clause-kept c = record { lengths = λ f. refl; ns = refl; headers = λ f. refl }

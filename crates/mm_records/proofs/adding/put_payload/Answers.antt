@@ -1,5 +1,6 @@
-use Rattle.std.proofs.Common.{List, ℕ, sym, subst}
+use Rattle.std.proofs.Common.{List, ℕ, ◌∙◌, sym, subst}
 use Rattle.std.proofs.lemmas.Result.{on_ok_weaker}
+use Rattle.mm_extents.proofs.RoomFalls.{room_kept, room_files}
 use Rattle.mm_nstable.specs.Nodes.{SameNames}
 use Rattle.mm_records.specs.Stands.{ns_in}
 use Rattle.mm_records.proofs.Paying.{write_asks, paid, paid_constants}
@@ -19,3 +20,7 @@ returns-clause-constants c = on_ok_weaker c.overwrite_room.result (λ e. paid_co
 
 pub returns-clause-names : goal.returns-clause-names
 returns-clause-names c = on_ok_weaker c.overwrite_room.result (λ e. subst (λ (ns : List ℕ). SameNames (ns_in c.args.draft.now.image) ns) (sym e) c.put_node.ensures.names) c.overwrite_room.ensures.ns
+
+pub returns-clause-files : goal.returns-clause-files
+returns-clause-files c = on_ok_weaker c.overwrite_room.result (λ k. room_kept c.put_node.«new».draft.image c.overwrite_room.«new».draft.image k
+    ∙ room_files c.args.draft.now.image c.put_node.«new».draft.image c.in_ok-put_node.ensures.lengths c.in_ok-put_node.ensures.files) c.overwrite_room.ensures.kept

@@ -1,4 +1,4 @@
-use Rattle.std.proofs.Common.{◌∙◌, ap, sym}
+use Rattle.std.proofs.Common.{◌∙◌, ◌*◌, ap, sym}
 use Rattle.std.proofs.lemmas.Result.{on_ok_weaker}
 use Rattle.mm_records.specs.Constants.{constants_of}
 use Rattle.mm_records.specs.Stands.{ns_in}
@@ -8,6 +8,8 @@ use Rattle.mm_links.specs.Links.{Place}
 use Rattle.mm_records.proofs.FreeSteps.{used_there}
 use Rattle.mm_records.proofs.PutBack.{in_hand}
 use Rattle.mm_records.proofs.Allocs.{alloc_found, ok_both, one_details, block_there, holds_of}
+use Rattle.mm_extents.proofs.RoomFalls.{lowers_none}
+use Rattle.mm_records.specs.Asking.{extent_len}
 use Rattle.mm_records.proofs.allocating.add_record.Goals as goal
 
 pub details-counts-requires : goal.details-counts-requires
@@ -68,3 +70,14 @@ pub returns-in-None-clause-constants : goal.returns-in-None-clause-constants
 returns-in-None-clause-constants c =
     let s = c.requires.stands in
     on_ok_weaker c.put_new.result (λ f. f (λ held g. ap (λ (h : Held). constants_of h.details) (one_details held _ (sym g ∙ c.details-counts.ensures.table s.1.1.0.table s.1.1.1.used)))) c.put_new.ensures.constants
+
+pub returns-in-Some-clause-room : goal.returns-in-Some-clause-room
+returns-in-Some-clause-room c = on_ok_weaker c.put_found.result (λ e free s stands node. record {
+  nothing = λ b. e;
+  most = lowers_none c.args.draft.now.image c.put_found.«new».draft.image (4 * extent_len s (name_at c.args.draft.now.image c.args.node) c.args.len) e;
+}) c.put_found.ensures.files
+
+pub returns-in-None-clause-room : goal.returns-in-None-clause-room
+returns-in-None-clause-room c = on_ok_weaker c.put_new.result (λ f free s stands node.
+    let st = in_hand c.args.draft.now.image free s c.args.node c.details-counts.result stands node (c.details-counts.ensures.table stands.table node.used) in
+    record { nothing = λ b. absurd (b (c.in-None.ensures.none free s st)); most = f free s st }) c.put_new.ensures.room

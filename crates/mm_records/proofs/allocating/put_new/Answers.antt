@@ -1,4 +1,4 @@
-use Rattle.std.proofs.Common.{◌≡◌, ◌∙◌, ℕ, ◌+◌, List, length, sym, ap, subst, arith}
+use Rattle.std.proofs.Common.{◌≡◌, ◌∙◌, ℕ, ◌+◌, ◌*◌, List, length, sym, ap, subst, arith}
 use Rattle.std.specs.FinMap.{get}
 use Rattle.std.proofs.lemmas.Result.{on_ok_weaker, err_from_is_err_and}
 use Rattle.mm_records.proofs.LinkSteps.{same_fault}
@@ -6,6 +6,8 @@ use Rattle.mm_links.specs.Links.{Place}
 use Rattle.mm_nstable.specs.Table.{table_of}
 use Rattle.mm_records.specs.Stands.{ns_in}
 use Rattle.mm_records.specs.Map.{name_at}
+use Rattle.mm_extents.specs.Room.{LowersRoom}
+use Rattle.mm_extents.proofs.RoomFalls.{lowers_none, lowers_both}
 use Rattle.mm_extents.specs.FreeExtents.{NoExtent}
 use Rattle.mm_records.specs.Searching.{NoBlock, IsChosen}
 use Rattle.mm_records.specs.Adding.{IsAdded}
@@ -73,3 +75,9 @@ returns-in_err-add_extent-clause-full c =
       no_block = none;
       no_extent = subst (λ (l : ℕ). NoExtent c.args.draft.now.image s.heap (s.extents free) l) (c.extent_len-long.ensures.is free s st) (c.in_err-add_extent.ensures.full (same_fault _ _ e) free s st);
     })
+
+pub returns-clause-room : goal.returns-clause-room
+returns-clause-room c = on_ok_weaker c.put_found.result (λ e free s st.
+    subst (λ (l : ℕ). LowersRoom (4 * l) c.args.draft.now.image c.put_found.«new».draft.image) (c.extent_len-long.ensures.is free s st)
+    (lowers_both c.args.draft.now.image c.add_extent.«new».draft.image c.put_found.«new».draft.image (4 * c.extent_len-long.result) 0 (4 * c.extent_len-long.result) c.in_ok-add_extent.ensures.room
+    (lowers_none c.add_extent.«new».draft.image c.put_found.«new».draft.image 0 e) (omega arith))) c.put_found.ensures.files

@@ -1,4 +1,4 @@
-use Rattle.std.proofs.Common.{◌≡◌, ◌∙◌, ℕ, ◌-◌, ◌<◌, List, length, rules, refl, sym, ap, subst, arith}
+use Rattle.std.proofs.Common.{◌≡◌, ◌∙◌, ℕ, ◌-◌, ◌*◌, ◌<◌, List, length, rules, refl, sym, ap, subst, arith}
 use Rattle.std.specs.Prelude.{FitsSigned, slice_index_or}
 use Rattle.std.specs.Int.{w32}
 use Rattle.std.proofs.lemmas.Int.{to_z-of_z}
@@ -12,6 +12,7 @@ use Rattle.mm_nstable.specs.Table.{table_of}
 use Rattle.mm_nstable.specs.FreeChain.{HasFreeChain, with_ends}
 use Rattle.mm_records.specs.Constants.{SameConstants}
 use Rattle.mm_records.specs.Shape.{list_for}
+use Rattle.mm_extents.proofs.RoomFalls.{room_kept, room_files, lowers_none, lowers_both}
 use Rattle.mm_extents.proofs.Writes.{heap_same}
 use Rattle.mm_records.specs.Stands.{ns_in}
 use Rattle.mm_records.specs.Map.{name_at}
@@ -253,3 +254,14 @@ pub returns-in_err-new_extent-clause-full : goal.returns-in_err-new_extent-claus
 returns-in_err-new_extent-clause-full c =
     let p = err_from_is_err_and c.from_residual.result c.from_residual.ensures.1 in
     rw (p.1, p.2) (λ e free s st. c.in_err-new_extent.ensures.full (same_fault _ _ e) free s.heap (s.extents free) (frees_of c.args.draft.now.image free s c.args.node c.args.counts.now st c.free_ends-free.result (c.free_ends-free.ensures free st.free_chain.0 st.free_chain.1.node)))
+
+pub returns-clause-room : goal.returns-clause-room
+returns-clause-room c =
+    let st = c.requires.stands.1.1 in
+    let hfc = subst (λ (ns : List ℕ). HasFreeChain ns c.requires.stands.0 st.free_chain.0) (sym c.in_ok-new_extent.ensures.ns) st.free_chain.1.node in
+    let w = c.in_ok-put_free_ends.ensures.written c.requires.stands.0 st.free_chain.0 hfc in
+    let lens = ends_lengths c.args.draft.now.image c.requires.stands.0 st.free_chain.0 st.table st.free_chain.1.node c.new_extent.«new».draft c.put_free_ends.«new».draft c.in_ok-new_extent.ensures.ns c.new_extent.«new».free w in
+    let files = ends_files c.args.draft.now.image c.requires.stands.0 st.free_chain.0 st.table st.free_chain.1.node c.new_extent.«new».draft c.put_free_ends.«new».draft c.in_ok-new_extent.ensures.ns c.new_extent.«new».free w in
+    lowers_both c.args.draft.now.image c.new_extent.«new».draft.image c.link_extent.«new».draft.image (4 * c.args.len) 0 (4 * c.args.len) c.in_ok-new_extent.ensures.room
+    (lowers_none c.new_extent.«new».draft.image c.link_extent.«new».draft.image 0
+    (room_kept c.put_free_ends.«new».draft.image c.link_extent.«new».draft.image c.in_ok-link_extent.ensures.kept ∙ room_files c.new_extent.«new».draft.image c.put_free_ends.«new».draft.image lens files)) (omega arith)

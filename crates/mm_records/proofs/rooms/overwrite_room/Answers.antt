@@ -38,3 +38,12 @@ returns-clause-ns c =
     let own = c.requires.own.1.1.0 in
     on_ok_weaker c.set_room.result (λ e.
     (keeps c.args.draft.now.image c.requires.own.0 c.requires.own.1.0 c.args.node (c.args.at.file, c.args.at.ofs) own c.args.draft.now c.set_room.«new».draft c.args.from c.args.bytes.now e refl c.requires.own.1.1.1).ns) c.set_room.ensures.ok
+
+pub returns-then-is_empty-clause-kept : goal.returns-then-is_empty-clause-kept
+returns-then-is_empty-clause-kept c = record { lengths = λ f. refl; ns = refl; headers = λ f. refl }
+
+pub returns-clause-kept : goal.returns-clause-kept
+returns-clause-kept c =
+    let own = c.requires.own.1.1.0 in
+    on_ok_weaker c.set_room.result (λ e.
+    keeps c.args.draft.now.image c.requires.own.0 c.requires.own.1.0 c.args.node (c.args.at.file, c.args.at.ofs) own c.args.draft.now c.set_room.«new».draft c.args.from c.args.bytes.now e refl c.requires.own.1.1.1) c.set_room.ensures.ok

@@ -113,10 +113,10 @@ count_rest-requires-clause-large c =
     let e : 16 + length c.requires.1.1.0 - c.args.len ≡ c.natural.result - c.args.len = ap (λ (n : ℕ). n - c.args.len) long in
     large (c.args.counts.now) (sum_by (λ q. room_of ((new c.args.draft.now.image c.requires.0 c.requires.1.0 c.args.node c.args.counts.now c.requires.1.1.1.0 (c.args.at.file, c.args.at.ofs) c.requires.1.1.0 c.args.len c.requires.1.1.1.1.0 c.requires.1.1.1.1.1).heap q)) (walk c.requires.1.0 (name_at c.args.draft.now.image c.args.node))) (16 + length c.requires.1.1.0 - c.args.len) (c.natural.result - c.args.len) (c.requires.1.1.1.0.own.datasize ∙ ap (λ (k : ℕ). pos k) (sym (size_less c.args.draft.now.image c.requires.0 c.requires.1.0 c.args.node c.args.counts.now c.requires.1.1.1.0 (c.args.at.file, c.args.at.ofs) c.requires.1.1.0 c.args.len c.requires.1.1.1.1.0 c.requires.1.1.1.1.1))) e
 
-pub returns-clause-ns : goal.returns-clause-ns
-returns-clause-ns c =
+pub returns-clause-kept : goal.returns-clause-kept
+returns-clause-kept c =
     let p : Place = (c.args.at.file, c.args.at.ofs) in
-    (c.in_ok-split_record.ensures.kept (c.requires.1.1.1.0.heap.data_file p (live (own c.args.draft.now.image c.requires.0 c.requires.1.0 c.args.node c.args.counts.now c.requires.1.1.1.0 (c.args.at.file, c.args.at.ofs) c.requires.1.1.0 c.args.len c.requires.1.1.1.1.0 c.requires.1.1.1.1.1).h c.requires.1.1.0) (here c.args.draft.now.image c.requires.0 c.requires.1.0 c.args.node c.args.counts.now c.requires.1.1.1.0 (c.args.at.file, c.args.at.ofs) c.requires.1.1.0 c.args.len c.requires.1.1.1.1.0 c.requires.1.1.1.1.1)) (c.requires.1.1.1.0.heap.behind_header p (live (own c.args.draft.now.image c.requires.0 c.requires.1.0 c.args.node c.args.counts.now c.requires.1.1.1.0 (c.args.at.file, c.args.at.ofs) c.requires.1.1.0 c.args.len c.requires.1.1.1.1.0 c.requires.1.1.1.1.1).h c.requires.1.1.0) (here c.args.draft.now.image c.requires.0 c.requires.1.0 c.args.node c.args.counts.now c.requires.1.1.1.0 (c.args.at.file, c.args.at.ofs) c.requires.1.1.0 c.args.len c.requires.1.1.1.1.0 c.requires.1.1.1.1.1))).ns
+    (c.in_ok-split_record.ensures.kept (c.requires.1.1.1.0.heap.data_file p (live (own c.args.draft.now.image c.requires.0 c.requires.1.0 c.args.node c.args.counts.now c.requires.1.1.1.0 (c.args.at.file, c.args.at.ofs) c.requires.1.1.0 c.args.len c.requires.1.1.1.1.0 c.requires.1.1.1.1.1).h c.requires.1.1.0) (here c.args.draft.now.image c.requires.0 c.requires.1.0 c.args.node c.args.counts.now c.requires.1.1.1.0 (c.args.at.file, c.args.at.ofs) c.requires.1.1.0 c.args.len c.requires.1.1.1.1.0 c.requires.1.1.1.1.1)) (c.requires.1.1.1.0.heap.behind_header p (live (own c.args.draft.now.image c.requires.0 c.requires.1.0 c.args.node c.args.counts.now c.requires.1.1.1.0 (c.args.at.file, c.args.at.ofs) c.requires.1.1.0 c.args.len c.requires.1.1.1.1.0 c.requires.1.1.1.1.1).h c.requires.1.1.0) (here c.args.draft.now.image c.requires.0 c.requires.1.0 c.args.node c.args.counts.now c.requires.1.1.1.0 (c.args.at.file, c.args.at.ofs) c.requires.1.1.0 c.args.len c.requires.1.1.1.1.0 c.requires.1.1.1.1.1)))
 
 pub returns-clause-ok : goal.returns-clause-ok
 returns-clause-ok c = λ free s room st lv can.

@@ -93,8 +93,8 @@ count_in-requires-clause-few c = few c.args.draft.now.image c.requires.0 c.requi
 pub count_in-requires-clause-small : goal.count_in-requires-clause-small
 count_in-requires-clause-small c = small c.args.draft.now.image c.requires.0 c.requires.1.0 c.args.node c.args.counts.now c.requires.1.1.0 c.args.block.list c.args.block.before (c.args.block.at.file, c.args.block.at.ofs) c.requires.1.1.1.0 c.requires.1.1.1.1
 
-pub returns-clause-ns : goal.returns-clause-ns
-returns-clause-ns c =
+pub returns-clause-kept : goal.returns-clause-kept
+returns-clause-kept c =
     let fe : FitsSigned w32 c.read_deleted-head.result.extent_ofs = search rules in
     let head = head_is c.args.draft.now.image c.requires.0 c.requires.1.0 c.args.node c.args.counts.now c.requires.1.1.0 c.args.block.list c.args.block.before (c.args.block.at.file, c.args.block.at.ofs) c.requires.1.1.1.0 c.requires.1.1.1.1 c.read_deleted-head.result c.read_deleted-head.ensures in
     let ext = ap (λ (h : DeletedHeader). h.extent_ofs) (sym head) ∙ sym (to_z-of_z w32 c.read_deleted-head.result.extent_ofs fe) ∙ c.natural-ext.ensures in
@@ -108,7 +108,7 @@ returns-clause-ns c =
     let kept = keeps_both c.args.draft.now.image c.pass_forward.«new».draft.image c.pass_back.«new».draft.image (keeps_both c.args.draft.now.image c.set_live.«new».draft.image c.pass_forward.«new».draft.image
     (keeps_both c.args.draft.now.image c.pass_block.«new».draft.image c.set_live.«new».draft.image c.in_ok-pass_block.ensures.kept (kept_by c.pass_block.«new».draft c.set_live.«new».draft c.args.block.at.file c.args.block.at.ofs 16 c.in_ok-set_live.ensures.written (record { data_file = pl.data_file; behind = pl.behind; inside = inside2 })))
     c.in_ok-pass_forward.ensures.kept) c.in_ok-pass_back.ensures.kept in
-    kept.ns
+    kept
 
 pub returns-clause-ok : goal.returns-clause-ok
 returns-clause-ok c = λ free s r st b.

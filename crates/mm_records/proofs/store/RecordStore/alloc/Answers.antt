@@ -6,7 +6,7 @@ use Rattle.mm_records.specs.Shape.{Shape}
 use Rattle.mm_records.specs.Stands.{Stands}
 use Rattle.mm_records.specs.Map.{name_at}
 use Rattle.mm_records.specs.Asking.{NoFit}
-use Rattle.mm_records.specs.Allocating.{IsAllocated}
+use Rattle.mm_records.specs.Allocating.{IsAllocated, PaysRoom}
 use Rattle.mm_records.proofs.Askings.{asked_once, too_long}
 use Rattle.mm_records.proofs.Allocs.{holds_of}
 use Rattle.mm_records.proofs.store.RecordStore.alloc.Goals as goal
@@ -27,3 +27,8 @@ returns-clause-full c = λ e free s r st node asked.
 pub returns-clause-space : goal.returns-clause-space
 returns-clause-space c = on_ok_weaker c.add_record.result (λ f free s r st node asked none. f free s st node
     (subst (λ (n : ℕ). NoFit c.args.draft.now.image s free (name_at c.args.draft.now.image c.args.self.now.node) n) (asked_once c.args.request (length c.args.payload.now) r c.asked_len.result asked c.asked_len.ensures.is) none)) c.add_record.ensures.space
+
+pub returns-clause-room : goal.returns-clause-room
+returns-clause-room c = on_ok_weaker c.add_record.result (λ f free s r st node asked.
+    subst (λ (n : ℕ). PaysRoom s (name_at c.args.draft.now.image c.args.self.now.node) n c.args.draft.now.image c.add_record.«new».draft.image)
+    (asked_once c.args.request (length c.args.payload.now) c.asked_len.result r c.asked_len.ensures.is asked) (f free s st node)) c.add_record.ensures.room

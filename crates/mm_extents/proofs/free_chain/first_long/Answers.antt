@@ -8,7 +8,7 @@ use Rattle.mm_extents.specs.FreeExtents.{extent_at}
 use Rattle.mm_extents.proofs.FreeWalks.{nonneg, same_number}
 use Rattle.mm_extents.proofs.FreeWalks.{start, stepped, fits, ends, at_of, none_left, low_first, listed_at}
 use Rattle.mm_extents.proofs.Spots.{none_of}
-use Rattle.mm_extents.proofs.free_extents.first_long.Goals as goal
+use Rattle.mm_extents.proofs.free_chain.first_long.Goals as goal
 
 pub loop-step-init : goal.loop-step-init
 loop-step-init c = λ list l. start c.args.draft.now.image list c.args.len c.args.head l

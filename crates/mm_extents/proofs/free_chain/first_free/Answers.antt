@@ -2,7 +2,7 @@ use Rattle.std.proofs.Common.{Option, Some, None}
 use Rattle.std.specs.Prelude.{IfNone}
 use Rattle.std.proofs.lemmas.Option.{IfSome_then}
 use Rattle.mm_extents.proofs.FreeWalks.{is_chain, is_first, all_shorter}
-use Rattle.mm_extents.proofs.free_extents.first_free.Goals as goal
+use Rattle.mm_extents.proofs.free_chain.first_free.Goals as goal
 
 none_then : {X : Type 0} (r : Option X) {P Q : Type 0} → IfNone r P → (P → Q) → IfNone r Q
 none_then None p f = f p
