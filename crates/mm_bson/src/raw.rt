@@ -62,14 +62,12 @@ pub(crate) fn u32_at(bytes: &[u8], end: usize) -> Result<(u32, &[u8]), BsonFault
     ensures gives { Is (λ x. (x.0, x.1.now)) result (number_at w32 end bytes.now) }
     ensures left { IfOk result (λ x. length x.1.now < length bytes.now) }
 {
-    if bytes.len() < 4 {
-        return Err(BsonFault::BadLength {
+    match bytes.split_first_chunk() {
+        Some((front, rest)) => Ok((u32::from_le_bytes(*front), rest)),
+        None => Err(BsonFault::BadLength {
             at: end - bytes.len(),
-        });
+        }),
     }
-    let (front, rest) = bytes.split_at(4);
-    let number = u32::from_le_bytes([front[0], front[1], front[2], front[3]]);
-    Ok((number, rest))
 }
 
 #[inline(always)]
@@ -78,16 +76,12 @@ fn u64_at(bytes: &[u8], end: usize) -> Result<(u64, &[u8]), BsonFault>
     ensures gives { Is (λ x. (x.0, x.1.now)) result (number_at w64 end bytes.now) }
     ensures left { IfOk result (λ x. length x.1.now < length bytes.now) }
 {
-    if bytes.len() < 8 {
-        return Err(BsonFault::BadLength {
+    match bytes.split_first_chunk() {
+        Some((front, rest)) => Ok((u64::from_le_bytes(*front), rest)),
+        None => Err(BsonFault::BadLength {
             at: end - bytes.len(),
-        });
+        }),
     }
-    let (front, rest) = bytes.split_at(8);
-    let number = u64::from_le_bytes([
-        front[0], front[1], front[2], front[3], front[4], front[5], front[6], front[7],
-    ]);
-    Ok((number, rest))
 }
 
 #[inline(always)]
@@ -145,12 +139,13 @@ fn name_of(bytes: &[u8], end: usize, due: Option<usize>) -> Result<(&[u8], &[u8]
     }
 }
 
-#[tactic(auto, unfolding(crate::specs::Piece::text_at))]
+#[tactic(auto, unfolding(crate::specs::Piece::piece_at, crate::specs::Piece::text_at))]
 #[inline(always)]
-fn text_of(bytes: &[u8], end: usize) -> Result<(&[u8], &[u8]), BsonFault>
+fn text_of(bytes: &[u8], end: usize) -> Result<(Raw<'_>, &[u8]), BsonFault>
     requires { length bytes.now ≤ end }
-    ensures gives { Is (λ x. (x.0.now, x.1.now)) result (text_at end bytes.now) }
-    ensures left { IfOk result (λ x. length x.1.now + (length x.0.now + 1) ≤ length bytes.now) }
+    ensures gives { Is (λ x. (piece x.0, x.1.now)) result (piece_at Kind.String end bytes.now) }
+    ensures framed { IfOk result (λ x. IsPieceFramed (piece x.0)) }
+    ensures left { IfOk result (λ x. length x.1.now + piece_len (piece x.0) ≤ length bytes.now) }
 {
     let (len, rest) = u32_at(bytes, end)?;
     let len = len as usize;
@@ -164,29 +159,33 @@ fn text_of(bytes: &[u8], end: usize) -> Result<(&[u8], &[u8]), BsonFault>
             at: end - bytes.len(),
         });
     }
-    Ok((&rest[..len - 1], &rest[len..]))
+    Ok((Raw::String(&rest[..len - 1]), &rest[len..]))
 }
 
+#[tactic(auto, unfolding(crate::specs::Piece::piece_at))]
 #[inline(always)]
-fn object_id_of(bytes: &[u8], end: usize) -> Result<(&[u8], &[u8]), BsonFault>
+fn object_id_of(bytes: &[u8], end: usize) -> Result<(Raw<'_>, &[u8]), BsonFault>
     requires { length bytes.now ≤ end }
-    ensures gives { Is (λ x. (x.0.now, x.1.now)) result (bytes_at 12 end bytes.now) }
-    ensures left { IfOk result (λ x. length x.1.now < length bytes.now) }
+    ensures gives { Is (λ x. (piece x.0, x.1.now)) result (piece_at Kind.ObjectId end bytes.now) }
+    ensures framed { IfOk result (λ x. IsPieceFramed (piece x.0)) }
+    ensures left { IfOk result (λ x. length x.1.now + piece_len (piece x.0) ≤ length bytes.now) }
 {
     if bytes.len() < 12 {
         return Err(BsonFault::BadLength {
             at: end - bytes.len(),
         });
     }
-    Ok(bytes.split_at(12))
+    let (id, rest) = bytes.split_at(12);
+    Ok((Raw::ObjectId(id), rest))
 }
 
-#[tactic(auto, unfolding(crate::specs::Reading::binary_at))]
+#[tactic(auto, unfolding(crate::specs::Piece::piece_at, crate::specs::Reading::binary_at))]
 #[inline(always)]
-fn binary_of(bytes: &[u8], end: usize) -> Result<(u8, &[u8], &[u8]), BsonFault>
+fn binary_of(bytes: &[u8], end: usize) -> Result<(Raw<'_>, &[u8]), BsonFault>
     requires { length bytes.now ≤ end }
-    ensures gives { Is (λ x. ((x.0, x.1.now), x.2.now)) result (binary_at end bytes.now) }
-    ensures left { IfOk result (λ x. length x.2.now < length bytes.now) }
+    ensures gives { Is (λ x. (piece x.0, x.1.now)) result (piece_at Kind.Binary end bytes.now) }
+    ensures framed { IfOk result (λ x. IsPieceFramed (piece x.0)) }
+    ensures left { IfOk result (λ x. length x.1.now + piece_len (piece x.0) ≤ length bytes.now) }
 {
     let (len, rest) = u32_at(bytes, end)?;
     let len = len as usize;
@@ -196,21 +195,22 @@ fn binary_of(bytes: &[u8], end: usize) -> Result<(u8, &[u8], &[u8]), BsonFault>
         });
     }
     let subtype = rest[0];
-    let (front, rest) = rest[1..].split_at(len);
-    Ok((subtype, front, rest))
+    let (bytes, rest) = rest[1..].split_at(len);
+    Ok((Raw::Binary { subtype, bytes }, rest))
 }
 
-#[tactic(auto, unfolding(crate::specs::Reading::boolean_at))]
+#[tactic(auto, unfolding(crate::specs::Piece::piece_at, crate::specs::Reading::boolean_at))]
 #[inline(always)]
-fn boolean_of(bytes: &[u8], end: usize) -> Result<(bool, &[u8]), BsonFault>
+fn boolean_of(bytes: &[u8], end: usize) -> Result<(Raw<'_>, &[u8]), BsonFault>
     requires { length bytes.now ≤ end }
-    ensures gives { Is (λ x. (x.0, x.1.now)) result (boolean_at end bytes.now) }
-    ensures left { IfOk result (λ x. length x.1.now < length bytes.now) }
+    ensures gives { Is (λ x. (piece x.0, x.1.now)) result (piece_at Kind.Boolean end bytes.now) }
+    ensures framed { IfOk result (λ x. IsPieceFramed (piece x.0)) }
+    ensures left { IfOk result (λ x. length x.1.now + piece_len (piece x.0) ≤ length bytes.now) }
 {
     match bytes {
         [] => Err(BsonFault::BadLength { at: end }),
-        [0, rest @ ..] => Ok((false, rest)),
-        [1, rest @ ..] => Ok((true, rest)),
+        [0, rest @ ..] => Ok((Raw::Boolean(false), rest)),
+        [1, rest @ ..] => Ok((Raw::Boolean(true), rest)),
         [byte, ..] => Err(BsonFault::BadType {
             at: end - bytes.len(),
             byte: *byte,
@@ -272,6 +272,57 @@ fn framed_of(bytes: &[u8], end: usize) -> Result<(&[u8], &[u8]), BsonFault>
     Ok(bytes.split_at(len))
 }
 
+// The readers of values, one for each type.
+
+#[tactic(auto, unfolding(crate::specs::Piece::piece_at))]
+#[inline(always)]
+fn int32_of(bytes: &[u8], end: usize) -> Result<(Raw<'_>, &[u8]), BsonFault>
+    requires { length bytes.now ≤ end }
+    ensures gives { Is (λ x. (piece x.0, x.1.now)) result (piece_at Kind.Int32 end bytes.now) }
+    ensures framed { IfOk result (λ x. IsPieceFramed (piece x.0)) }
+    ensures left { IfOk result (λ x. length x.1.now + piece_len (piece x.0) ≤ length bytes.now) }
+{
+    let (bits, rest) = u32_at(bytes, end)?;
+    Ok((Raw::Int32(bits.cast_signed()), rest))
+}
+
+#[tactic(auto, unfolding(crate::specs::Piece::piece_at))]
+#[inline(always)]
+fn int64_of(bytes: &[u8], end: usize) -> Result<(Raw<'_>, &[u8]), BsonFault>
+    requires { length bytes.now ≤ end }
+    ensures gives { Is (λ x. (piece x.0, x.1.now)) result (piece_at Kind.Int64 end bytes.now) }
+    ensures framed { IfOk result (λ x. IsPieceFramed (piece x.0)) }
+    ensures left { IfOk result (λ x. length x.1.now + piece_len (piece x.0) ≤ length bytes.now) }
+{
+    let (bits, rest) = u64_at(bytes, end)?;
+    Ok((Raw::Int64(bits.cast_signed()), rest))
+}
+
+#[tactic(auto, unfolding(crate::specs::Piece::piece_at))]
+#[inline(always)]
+fn date_of(bytes: &[u8], end: usize) -> Result<(Raw<'_>, &[u8]), BsonFault>
+    requires { length bytes.now ≤ end }
+    ensures gives { Is (λ x. (piece x.0, x.1.now)) result (piece_at Kind.Date end bytes.now) }
+    ensures framed { IfOk result (λ x. IsPieceFramed (piece x.0)) }
+    ensures left { IfOk result (λ x. length x.1.now + piece_len (piece x.0) ≤ length bytes.now) }
+{
+    let (bits, rest) = u64_at(bytes, end)?;
+    Ok((Raw::Date(bits.cast_signed()), rest))
+}
+
+#[tactic(auto, unfolding(crate::specs::Piece::piece_at))]
+#[inline(always)]
+fn timestamp_of(bytes: &[u8], end: usize) -> Result<(Raw<'_>, &[u8]), BsonFault>
+    requires { length bytes.now ≤ end }
+    ensures gives { Is (λ x. (piece x.0, x.1.now)) result (piece_at Kind.Timestamp end bytes.now) }
+    ensures framed { IfOk result (λ x. IsPieceFramed (piece x.0)) }
+    ensures left { IfOk result (λ x. length x.1.now + piece_len (piece x.0) ≤ length bytes.now) }
+{
+    let (increment, rest) = u32_at(bytes, end)?;
+    let (seconds, rest) = u32_at(rest, end)?;
+    Ok((Raw::Timestamp { seconds, increment }, rest))
+}
+
 #[tactic(auto, unfolding(crate::specs::Piece::piece_at))]
 #[inline(always)]
 pub(crate) fn value_of(kind: Kind, bytes: &[u8], end: usize) -> Result<(Raw<'_>, &[u8]), BsonFault>
@@ -281,42 +332,17 @@ pub(crate) fn value_of(kind: Kind, bytes: &[u8], end: usize) -> Result<(Raw<'_>,
     ensures left { IfOk result (λ x. length x.1.now + piece_len (piece x.0) ≤ length bytes.now) }
 {
     match kind {
-        Kind::Int32 => {
-            let (bits, rest) = u32_at(bytes, end)?;
-            Ok((Raw::Int32(bits.cast_signed()), rest))
-        }
-        Kind::Int64 => {
-            let (bits, rest) = u64_at(bytes, end)?;
-            Ok((Raw::Int64(bits.cast_signed()), rest))
-        }
-        Kind::Date => {
-            let (bits, rest) = u64_at(bytes, end)?;
-            Ok((Raw::Date(bits.cast_signed()), rest))
-        }
-        Kind::Timestamp => {
-            let (increment, rest) = u32_at(bytes, end)?;
-            let (seconds, rest) = u32_at(rest, end)?;
-            Ok((Raw::Timestamp { seconds, increment }, rest))
-        }
-        Kind::ObjectId => {
-            let (id, rest) = object_id_of(bytes, end)?;
-            Ok((Raw::ObjectId(id), rest))
-        }
-        Kind::Binary => {
-            let (subtype, bytes, rest) = binary_of(bytes, end)?;
-            Ok((Raw::Binary { subtype, bytes }, rest))
-        }
-        Kind::Boolean => {
-            let (set, rest) = boolean_of(bytes, end)?;
-            Ok((Raw::Boolean(set), rest))
-        }
+        Kind::Int32 => int32_of(bytes, end),
+        Kind::Int64 => int64_of(bytes, end),
+        Kind::Date => date_of(bytes, end),
+        Kind::Timestamp => timestamp_of(bytes, end),
+        Kind::ObjectId => object_id_of(bytes, end),
+        Kind::Binary => binary_of(bytes, end),
+        Kind::Boolean => boolean_of(bytes, end),
+        Kind::String => text_of(bytes, end),
         Kind::Null => Ok((Raw::Null, bytes)),
         Kind::MinKey => Ok((Raw::MinKey, bytes)),
         Kind::MaxKey => Ok((Raw::MaxKey, bytes)),
-        Kind::String => {
-            let (text, rest) = text_of(bytes, end)?;
-            Ok((Raw::String(text), rest))
-        }
         Kind::Document => {
             let (document, rest) = framed_of(bytes, end)?;
             Ok((Raw::Document(document), rest))

@@ -83,9 +83,19 @@ impl Shared {
                 return Ok(());
             }
         }
+        *self = self.copied_with(name, value)?;
+        Ok(())
+    }
+
+    // The same in bytes of their own.
+    fn copied_with(&self, name: &[u8], value: &ValueRef<'_>) -> Result<Shared, AllocError>
+        requires ended { 5 ≤ length self.now }
+        requires short { length self.now + element_len name.now (tree_in value.now) < 2 ^ 31 }
+        ensures spelled { IfOk result (λ s. (inner : List ℕ) → self.now ≡ framed inner → s ≡ framed (inner ++ element_spelling name.now (tree_in value.now))) }
+        ensures sound { OnOk result (IsValue (tree_in value.now)) }
+    {
         let mut bytes = Vec::from_slice(*self.all.allocator(), self.as_slice())?;
         put_more(&mut bytes, name, value)?;
-        *self = Shared::of_vec(bytes)?;
-        Ok(())
+        Shared::of_vec(bytes)
     }
 }
