@@ -32,7 +32,7 @@ use Rattle.mm_recover.proofs.NewerAsks.{can_named}
 
 -- ---- the names of data files
 
-abbrev NoneIs : ℕ → List ℕ → Type 0
+abbrev pub NoneIs : ℕ → List ℕ → Type 0
 NoneIs k [] = Unit {0}
 NoneIs k (x ∷ xs) = (x ≡ k → ⊥) × NoneIs k xs
 
@@ -49,7 +49,7 @@ letters_no_slash (b ∷ bytes) all =
     let here = both (is_letter b) (list_all is_letter bytes) all in
     ((λ e. true≢false (sym here.0 ∙ ap is_letter e)), letters_no_slash bytes here.1)
 
-letters_of : (name : List ℕ) → IsTrue (is_db_name name) → list_all is_letter name ≡ true
+pub letters_of : (name : List ℕ) → IsTrue (is_db_name name) → list_all is_letter name ≡ true
 letters_of name is = (both (nat_le (length name) 16) (list_all is_letter name) (both (nat_lt 0 (length name)) (nat_le (length name) 16 && list_all is_letter name) is).1).1
 
 some_of : (name : List ℕ) → IsTrue (is_db_name name) → nat_lt 0 (length name) ≡ true
@@ -90,7 +90,7 @@ zero_first n le = by (nat_lt n (2 ^ 32)) (grind (arith, nat_tests)) n
     by true e k = absurd (true≢false e)
     by false e k = zeros_first k
 
-data_name_is : (name : List ℕ) (file : ℕ) → IsTrue (is_db_name name) → IsData the_names (disk_name name file)
+pub data_name_is : (name : List ℕ) (file : ℕ) → IsTrue (is_db_name name) → IsData the_names (disk_name name file)
 data_name_is name file is =
     let d = dotted name file in
     let all = letters_of name is in

@@ -11,7 +11,10 @@ pub mod Afterwards
 pub mod LsnRead
 pub mod FileNumbers
 pub mod TouchedNames
+pub mod LaidOver
 pub mod Counted
 pub mod Replayed
 pub mod Depth
 pub mod Cleared
+pub mod OneName
+pub mod Loads

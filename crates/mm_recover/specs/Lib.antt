@@ -3,5 +3,7 @@ pub mod Reading
 pub mod Laying
 pub mod Closing
 pub mod Touched
+pub mod Overlaid
 pub mod Recovering
 pub mod Crashes
+pub mod Loading

@@ -7,6 +7,9 @@
 //! - Of a whole image: stopped anywhere, by a crash or a fault, it leaves whole images with the same recovered files at every
 //!   moment since it began (`KeepsRecovery`), or since its first syncs (`KeepsSettled`), as long as no torn record passes for a
 //!   whole one by chance. So it may be made again, and stopped again, to any depth: `any_depth` is that law.
+//! - `load` writes nothing: it reads the files of one database into new views, with the sections above the lsn laid over them
+//!   in memory. Of a whole image these are the recovered files. It tells the journal's first fault, or else the first file that
+//!   is too long.
 //!
 //! It isn't promised that a torn section, header or lsn never passes by chance, nor that memory is there: the journal's files are
 //! read whole, one at a time, and their sections are kept until they are laid.
@@ -17,9 +20,11 @@ mod fault;
 mod files;
 mod journal;
 mod laying;
+mod loading;
 mod log;
 mod names;
 mod numbers;
+mod overlaying;
 mod recovery;
 mod replaying;
 mod sections;
@@ -28,6 +33,7 @@ mod touched;
 pub use closing::sync_all;
 pub use fault::Recover;
 pub use laying::lay_part;
+pub use loading::load;
 pub use names::disk_name;
 pub use recovery::{any_depth, recover};
 pub use replaying::Recovered;
