@@ -37,7 +37,7 @@ module _ (image : Image) (free : List ℕ) (s : Shape) (node : ℕ) (d : Details
   has_node m n = (n.0, ap (λ (ns : List ℕ). get (table_of ns) m) k.ns ∙ n.1)
 
   pub continues : (t : Shape) (d' : Details) → IsHeap new t.heap → IsTiled (ground t.heap) (unused_in new) free → ExtentsStand t.heap t.extents
-      → ((q : Place) (g : ExtentHeader) → t.heap q ≡ Some (extent g) → HasNode image (text_in g.namespace)) → RecordsStand t → ListsStand t → DetailsStand t (name_at image node) d'
+      → ((q : Place) (g : ExtentHeader) → t.heap q ≡ Some (extent g) → HasNode image (text_in g.namespace)) → RecordsStand free t → ListsStand t → DetailsStand t (name_at image node) d'
       → ((m : List ℕ) (x : Details) → (m ≡ name_at image node → ⊥) → DetailsStand s m x → DetailsStand t m x) → t.extents free ≡ s.extents free → StandsWith new free t node d'
   continues t d' heap tiled extents owners records lists own others chain = record {
     files = files_kept image new k.lengths (λ f lt. k.headers f) st.files;

@@ -42,7 +42,7 @@ bare_stands image free t u b fs held f first last = record {
   tiled = record { begins = λ file v e. inl (u file v e); extents = λ file at magic here name len e. absurd cc; apart = λ file a b magic magic' n here here' name name' len e e' lt. absurd cc; blocks = λ file at n ext len e. absurd cc };
   owners = λ p h e. absurd cc;
   extents = record { linked = λ name. unlinked_none _ _ _; on_chain = λ name p h. absurd (false≢true h); all = λ p h e. absurd cc };
-  records = record { linked = λ e. unlinked_none _ _ _; on_chain = λ e p h. absurd (false≢true h); all = λ p h room a e x. absurd cc; ends = λ e h x. absurd cc };
+  records = record { linked = λ e. unlinked_none _ _ _; on_chain = λ e p h. absurd (false≢true h); all = λ p h room a e x. absurd cc; ends = λ e h x nf. absurd cc };
   lists = record { no_twice = λ name i. refl; on_list = λ name i p h. absurd (false≢true h); all = λ p h rest a hh e x y. absurd cc };
   counts = λ name held e ne. let d = b name held e ne in record { first = d.first; last = d.last; heads = d.heads; nrecords = d.nrecords; datasize = d.datasize; last_size = d.last_size; constants = d.constants };
   free_chain = (held, record { node = f; first = first; last = last });

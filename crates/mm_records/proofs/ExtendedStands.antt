@@ -227,7 +227,7 @@ module _ (image : Image) (free : List ℕ) (s : Shape) (node : ℕ) (d : Details
   pub prev_stays : (f q : Place) → has (s.records f) q ≡ true → rec_prev (new.heap q) ≡ rec_prev (s.heap q)
   prev_stays f q i = let y = g.st.records.on_chain f q i in ap rec_prev (x.live_stays image free s node d len g q y.h y.room y.there ∙ sym y.there)
 
-  pub records_stand : RecordsStand new
+  pub records_stand : RecordsStand free new
   records_stand = record {
     linked = λ f. relinked ofs_or (s.records f) (λ q. rec_next (s.heap q)) (λ q. rec_prev (s.heap q)) (λ q. rec_next (new.heap q)) (λ q. rec_prev (new.heap q)) (g.st.records.linked f) (next_stays f) (prev_stays f);
     on_chain = λ f q i. let y = g.st.records.on_chain f q i in record { h = y.h; room = y.room; there = x.live_stays image free s node d len g q y.h y.room y.there; file = y.file; of_extent = y.of_extent };
@@ -235,8 +235,8 @@ module _ (image : Image) (free : List ℕ) (s : Shape) (node : ℕ) (d : Details
     ends = ends;
   }
     where
-      ends : (f : Place) (h : ExtentHeader) → new.heap f ≡ Some (extent h) → NamesEnds h (s.records f)
-      ends f h i = elim (cases_Bool (same e f)) [
+      ends : (f : Place) (h : ExtentHeader) → new.heap f ≡ Some (extent h) → text_in h.namespace ≢ free → NamesEnds h (s.records f)
+      ends f h i nf = elim (cases_Bool (same e f)) [
         | inl y ↦
             let cells : extent (x.new_header image free s node d len g) ≡ extent h = some_same (extent (x.new_header image free s node d len g)) (extent h) (sym (x.u_here image free s node d len g) ∙ ap new.heap (same_is e f y) ∙ i) in
             let heads : x.new_header image free s node d len g ≡ h = cc in
@@ -247,7 +247,7 @@ module _ (image : Image) (free : List ℕ) (s : Shape) (node : ℕ) (d : Details
             }
         | inr ne ↦
             let was = x.extent_was image free s node d len g f h ne i in
-            let y = g.st.records.ends f was.h was.is in
+            let y = g.st.records.ends f was.h was.is (λ z. nf (ap text_in (sym was.name_is) ∙ z)) in
             record { first = sym was.first_is ∙ y.first; last = sym was.last_is ∙ y.last }
       ]
 

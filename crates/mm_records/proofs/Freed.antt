@@ -35,7 +35,7 @@ name_own q m e = subst (λ (n : List ℕ). is_name q n ≡ true) e ((eq_by_cmp_e
 some_same : {A : Type 0} (x y : A) → Some x ≡ Some y → x ≡ y
 some_same x y e = cc
 
-module _ (s : Shape) (p : Place) (h : RecHeader) (room : List ℕ) (a : ℕ) (rs : RecordsStand s) (here : s.heap p ≡ Some (live h room)) (ext : h.extent_ofs ≡ pos a) where
+module _ {free : List ℕ} (s : Shape) (p : Place) (h : RecHeader) (room : List ℕ) (a : ℕ) (rs : RecordsStand free s) (here : s.heap p ≡ Some (live h room)) (ext : h.extent_ofs ≡ pos a) where
   abbrev e : Place
   e = (p.0, a)
 

@@ -29,7 +29,7 @@ core_room (Some (extent h)) = refl
 core_room (Some (live h room)) = refl
 core_room (Some (deleted h rest)) = refl
 
-module _ (s : Shape) (p : Place) (h : RecHeader) (room : List ℕ) (a : ℕ) (hh : ExtentHeader) (es : ExtentsStand s.heap s.extents) (rs : RecordsStand s) (ls : ListsStand s)
+module _ {free : List ℕ} (s : Shape) (p : Place) (h : RecHeader) (room : List ℕ) (a : ℕ) (hh : ExtentHeader) (es : ExtentsStand s.heap s.extents) (rs : RecordsStand free s) (ls : ListsStand s)
     (here : s.heap p ≡ Some (live h room)) (ext : h.extent_ofs ≡ pos a) (there : s.heap (p.0, a) ≡ Some (extent hh)) where
   abbrev name : List ℕ
   name = text_in hh.namespace

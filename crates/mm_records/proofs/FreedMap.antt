@@ -44,7 +44,7 @@ none_either : {A : Type 0} (b : Bool) (o : Option A) → o ≡ None → (if b th
 none_either true o e = e
 none_either false o e = refl
 
-module _ (s : Shape) (p : Place) (h : RecHeader) (room : List ℕ) (a : ℕ) (hh : ExtentHeader) (es : ExtentsStand s.heap s.extents) (rs : RecordsStand s) (ls : ListsStand s)
+module _ {free : List ℕ} (s : Shape) (p : Place) (h : RecHeader) (room : List ℕ) (a : ℕ) (hh : ExtentHeader) (es : ExtentsStand s.heap s.extents) (rs : RecordsStand free s) (ls : ListsStand s)
     (here : s.heap p ≡ Some (live h room)) (ext : h.extent_ofs ≡ pos a) (there : s.heap (p.0, a) ≡ Some (extent hh)) where
   abbrev new : Shape
   new = freed_shape (text_in hh.namespace) a p h (16 + length room) s

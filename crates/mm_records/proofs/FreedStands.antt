@@ -1,5 +1,5 @@
 -- After a record was freed, chains, lists and outline stand again.
-use Rattle.std.proofs.Common.{◌≡◌, ℕ, pos, ◌+◌, inl, inr, Bool, true, false, List, ◌∷◌, length, Option, Some, sym, ◌∙◌, ap, subst}
+use Rattle.std.proofs.Common.{◌≡◌, ◌≢◌, ℕ, pos, ◌+◌, inl, inr, Bool, true, false, List, ◌∷◌, length, Option, Some, sym, ◌∙◌, ap, subst}
 use Rattle.std.specs.Prelude.{◌&&◌, ◌==◌, not, if◌then◌else◌}
 use Rattle.std.specs.Option.{option_map}
 use Rattle.std.proofs.lemmas.Bool.{cases_Bool, false≢true, eqb-true, eq-eqb}
@@ -25,7 +25,7 @@ use Rattle.mm_records.proofs.Freed.{name_is, name_own, core_aft, next_aft, prev_
 pair : (b c : Bool) → b ≡ true → c ≡ true → (b && c) ≡ true
 pair b c e f = ap (λ (x : Bool). x && c) e ∙ f
 
-module _ (s : Shape) (p : Place) (h : RecHeader) (room : List ℕ) (a : ℕ) (hh : ExtentHeader) (es : ExtentsStand s.heap s.extents) (rs : RecordsStand s) (ls : ListsStand s)
+module _ {free : List ℕ} (s : Shape) (p : Place) (h : RecHeader) (room : List ℕ) (a : ℕ) (hh : ExtentHeader) (es : ExtentsStand s.heap s.extents) (rs : RecordsStand free s) (ls : ListsStand s)
     (here : s.heap p ≡ Some (live h room)) (ext : h.extent_ofs ≡ pos a) (there : s.heap (p.0, a) ≡ Some (extent hh)) where
   abbrev e : Place
   e = (p.0, a)
@@ -191,10 +191,10 @@ module _ (s : Shape) (p : Place) (h : RecHeader) (room : List ℕ) (a : ℕ) (hh
         | inr n ↦ ap (λ (xs : List Place). has xs q) (records_other (q.0, b) n) ∙ old
       ]
 
-  ends_new : (f : Place) (g : ExtentHeader) → new.heap f ≡ Some (extent g) → NamesEnds g (new.records f)
-  ends_new f g i =
+  ends_new : (f : Place) (g : ExtentHeader) → new.heap f ≡ Some (extent g) → text_in g.namespace ≢ free → NamesEnds g (new.records f)
+  ends_new f g i nf =
       let t = extent_was f g i in
-      let names = rs.ends f t.1.h t.1.is in
+      let names = rs.ends f t.1.h t.1.is (λ z. nf (ap text_in (sym t.1.name_is) ∙ z)) in
       let at : new.heap f ≡ mid f = new_there f t.0 in
       elim (cases_Bool (same f (p.0, a))) [
         | inl y ↦
@@ -213,7 +213,7 @@ module _ (s : Shape) (p : Place) (h : RecHeader) (room : List ℕ) (a : ℕ) (hh
             })
       ]
 
-  pub records_stand : RecordsStand new
+  pub records_stand : RecordsStand free new
   records_stand = record { linked = linked_new; on_chain = on_chain_new; all = all_new; ends = ends_new }
 
   -- ---- the deleted lists

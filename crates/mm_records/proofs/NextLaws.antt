@@ -106,6 +106,7 @@ module _ (image : Image) (free : List ℕ) (s : Shape) (node : ℕ) (p : Place) 
   pub rest_behind : (at : DiskLoc) → at ≡ own.hh.xnext → IsRest image free s name middle.after at
   rest_behind at i = record {
     stands = own.stands;
+    isnt_free = λ z. own.isnt_free (sym own.named ∙ z);
     before = middle.before ++ e ∷ [];
     is = middle.is ∙ sym (append_assoc middle.before (e ∷ []) middle.after);
     here = i ∙ sym (ap ext_next own.there) ∙ (own.stands.extents.linked name).behind e on_extents ∙ ap loc_or (ap (λ (xs : List Place). next_in xs e) middle.is ∙ next_middle middle.before e middle.after whole);

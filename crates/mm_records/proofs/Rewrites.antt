@@ -70,7 +70,7 @@ module _ (s : Shape) (p : Place) (h : RecHeader) (room room' : List ℕ) (long :
   headers' : (q : Place) (g : RecHeader) (r : List ℕ) → same p q ≡ true → new q ≡ Some (live g r) → h ≡ g
   headers' q g r y e = let f : live h room' ≡ live g r = some_same (live h room') (live g r) (sym now ∙ ap new (same_is p q y) ∙ e) in cc
 
-  on_chain_again : RecordsStand s → (e q : Place) → has (s.records e) q ≡ true → IsRecord new e q
+  on_chain_again : {free : List ℕ} → RecordsStand free s → (e q : Place) → has (s.records e) q ≡ true → IsRecord new e q
   on_chain_again rs e q i =
       let r = rs.on_chain e q i in
       elim (cases_Bool (same p q)) [
@@ -78,18 +78,18 @@ module _ (s : Shape) (p : Place) (h : RecHeader) (room room' : List ℕ) (long :
         | inr n ↦ record { h = r.h; room = r.room; there = off q n ∙ r.there; file = r.file; of_extent = r.of_extent }
       ]
 
-  all_again : RecordsStand s → (q : Place) (g : RecHeader) (r : List ℕ) (b : ℕ) → new q ≡ Some (live g r) → g.extent_ofs ≡ pos b → has (s.records (q.0, b)) q ≡ true
+  all_again : {free : List ℕ} → RecordsStand free s → (q : Place) (g : RecHeader) (r : List ℕ) (b : ℕ) → new q ≡ Some (live g r) → g.extent_ofs ≡ pos b → has (s.records (q.0, b)) q ≡ true
   all_again rs q g r b i x = elim (cases_Bool (same p q)) [
     | inl y ↦ rs.all q h room b (ap s.heap (sym (same_is p q y)) ∙ here) (ap (λ (z : RecHeader). z.extent_ofs) (headers' q g r y i) ∙ x)
     | inr n ↦ rs.all q g r b (sym (off q n) ∙ i) x
   ]
 
-  records_again : RecordsStand s → RecordsStand young
+  records_again : {free : List ℕ} → RecordsStand free s → RecordsStand free young
   records_again rs = record {
     linked = λ e. relinked ofs_or (s.records e) (λ q. rec_next (s.heap q)) (λ q. rec_prev (s.heap q)) (λ q. rec_next (new q)) (λ q. rec_prev (new q)) (rs.linked e) (λ q _. alike rec_next refl q) (λ q _. alike rec_prev refl q);
     on_chain = on_chain_again rs;
     all = all_again rs;
-    ends = λ e g i. rs.ends e g (before e (extent g) i (λ f. cc));
+    ends = λ e g i nf. rs.ends e g (before e (extent g) i (λ f. cc)) nf;
   }
 
   deleted_again : (m : List ℕ) (i : ℕ) (o : Option Place) (q : Place) → IsDeleted s.heap m i o q → IsDeleted new m i o q

@@ -200,12 +200,12 @@ module _ (image : Image) (free : List ℕ) (s : Shape) (node : ℕ) (d : Details
     ]
   ]
 
-  records_stand : RecordsStand new
+  records_stand : RecordsStand free new
   records_stand = record {
     linked = λ e. relinked ofs_or (s.records e) (λ q. rec_next (s.heap q)) (λ q. rec_prev (s.heap q)) (λ q. rec_next (new.heap q)) (λ q. rec_prev (new.heap q)) (st.records.linked e) (λ q _. alike rec_next refl refl q) (λ q _. alike rec_prev refl refl q);
     on_chain = on_chain_new;
     all = all_new;
-    ends = λ e g i. st.records.ends e g (extent_was e g i);
+    ends = λ e g i nf. st.records.ends e g (extent_was e g i) nf;
   }
 
   -- ---- the lists

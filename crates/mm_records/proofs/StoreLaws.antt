@@ -68,6 +68,7 @@ pub first_rest : (image : Image) (free : List ℕ) (s : Shape) (node : ℕ) (d :
     → IsRest image free s (name_at image node) (s.extents (name_at image node)) d.first_extent
 first_rest image free s node d st n f = record {
   stands = st;
+  isnt_free = n.isnt_free;
   before = [];
   is = refl;
   here = (st.counts (name_at image node) (record { node = node; details = d }) (f st.table n.used) n.isnt_free).first;

@@ -166,7 +166,7 @@ module _ (image : Image) (free : List ℕ) (s : Shape) (node : ℕ) (d : Details
     last_low (Some y) f = let x = last_live y f in low_place image s.heap y (live x.0 x.1.0) st.files st.heap x.1.1
 
     pub last_asks : IsLastLink image (p.0, e) (last_of chain)
-    last_asks = record { heap = s.heap; is = st.heap; h = hh; there = there; names = (st.records.ends (p.0, e) hh there).last; low = last_low (last_of chain) refl }
+    last_asks = record { heap = s.heap; is = st.heap; h = hh; there = there; names = (st.records.ends (p.0, e) hh there (λ z. st.is_node.isnt_free (sym named ∙ z))).last; low = last_low (last_of chain) refl }
 
     pub one : once (s.lists (text_in hh.namespace) (list_for (16 + length b.rest))) ≡ true
     one = st.lists.no_twice (text_in hh.namespace) (list_for (16 + length b.rest))

@@ -35,7 +35,7 @@ first_alone (x ∷ y ∷ ys) p e = absurd (none (y ∷ ys) y refl e)
 some_same : {A : Type 0} (x y : A) → Some x ≡ Some y → x ≡ y
 some_same x y e = cc
 
-module _ (s : Shape) (p : Place) (h : DeletedHeader) (rest : List ℕ) (a : ℕ) (hh : ExtentHeader) (list : List Place) (before : Option Place) (rs : RecordsStand s) (here : s.heap p ≡ Some (deleted h rest))
+module _ {free : List ℕ} (s : Shape) (p : Place) (h : DeletedHeader) (rest : List ℕ) (a : ℕ) (hh : ExtentHeader) (list : List Place) (before : Option Place) (rs : RecordsStand free s) (here : s.heap p ≡ Some (deleted h rest))
     (there : s.heap (p.0, a) ≡ Some (extent hh)) (one : once list ≡ true) (stands : StandsBefore list before p) (blocks : (q : Place) → has list q ≡ true → IsBlockAt s.heap q) where
   abbrev chain : List Place
   chain = s.records (p.0, a)

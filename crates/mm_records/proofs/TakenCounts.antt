@@ -53,7 +53,7 @@ none_either : {A : Type 0} (b : Bool) (o : Option A) → o ≡ None → (if b th
 none_either true o e = e
 none_either false o e = refl
 
-module _ (s : Shape) (p : Place) (h : DeletedHeader) (rest : List ℕ) (a : ℕ) (hh : ExtentHeader) (before : Option Place) (es : ExtentsStand s.heap s.extents) (rs : RecordsStand s) (ls : ListsStand s)
+module _ {free : List ℕ} (s : Shape) (p : Place) (h : DeletedHeader) (rest : List ℕ) (a : ℕ) (hh : ExtentHeader) (before : Option Place) (es : ExtentsStand s.heap s.extents) (rs : RecordsStand free s) (ls : ListsStand s)
     (here : s.heap p ≡ Some (deleted h rest)) (ext : h.extent_ofs ≡ pos a) (there : s.heap (p.0, a) ≡ Some (extent hh)) (stands : StandsBefore (s.lists (text_in hh.namespace) (list_for (16 + length rest))) before p) where
   abbrev name : List ℕ
   name = text_in hh.namespace

@@ -1,5 +1,5 @@
 -- After a block was taken for a record, chains, lists and outline stand again.
-use Rattle.std.proofs.Common.{◌≡◌, ℕ, pos, ◌+◌, inl, inr, true, false, List, length, Option, Some, None, refl, sym, ◌∙◌, ap, subst}
+use Rattle.std.proofs.Common.{◌≡◌, ◌≢◌, ℕ, pos, ◌+◌, inl, inr, true, false, List, length, Option, Some, None, refl, sym, ◌∙◌, ap, subst}
 use Rattle.std.specs.Option.{option_map}
 use Rattle.std.proofs.lemmas.Bool.{cases_Bool, false≢true}
 use Rattle.mm_frames.specs.Texts.{text_in}
@@ -23,7 +23,7 @@ use Rattle.mm_records.proofs.Taken.{new_head, bare_aft, here_aft, next_aft, prev
 some_same : {A : Type 0} (x y : A) → Some x ≡ Some y → x ≡ y
 some_same x y e = cc
 
-module _ (s : Shape) (p : Place) (h : DeletedHeader) (rest : List ℕ) (a : ℕ) (hh : ExtentHeader) (before : Option Place) (es : ExtentsStand s.heap s.extents) (rs : RecordsStand s) (ls : ListsStand s)
+module _ {free : List ℕ} (s : Shape) (p : Place) (h : DeletedHeader) (rest : List ℕ) (a : ℕ) (hh : ExtentHeader) (before : Option Place) (es : ExtentsStand s.heap s.extents) (rs : RecordsStand free s) (ls : ListsStand s)
     (here : s.heap p ≡ Some (deleted h rest)) (ext : h.extent_ofs ≡ pos a) (there : s.heap (p.0, a) ≡ Some (extent hh)) (stands : StandsBefore (s.lists (text_in hh.namespace) (list_for (16 + length rest))) before p) where
   abbrev name : List ℕ
   name = text_in hh.namespace
@@ -173,17 +173,19 @@ module _ (s : Shape) (p : Place) (h : DeletedHeader) (rest : List ℕ) (a : ℕ)
         ]
   ]
 
-  ends_new : (f : Place) (g : ExtentHeader) → new.heap f ≡ Some (extent g) → NamesEnds g (new.records f)
-  ends_new f g i =
+  ends_new : (f : Place) (g : ExtentHeader) → new.heap f ≡ Some (extent g) → text_in g.namespace ≢ free → NamesEnds g (new.records f)
+  ends_new f g i nf =
       let t = extent_was f g i in
-      let names = rs.ends f t.h t.is in
+      let used : text_in t.h.namespace ≢ free = λ z. nf (ap text_in (sym t.name_is) ∙ z) in
+      let names = rs.ends f t.h t.is used in
       let ne = isnt_new f (extent g) i (λ z. cc) in
       elim (cases_Bool (same f (p.0, a))) [
         | inl y ↦
             let same_extent = same_is f (p.0, a) y in
+            let own_ends : NamesEnds hh chain = rs.ends (p.0, a) hh there (λ z. used (ap text_in (one_name hh t.h (sym there ∙ ap s.heap (sym same_extent) ∙ t.is)) ∙ z)) in
             let whole : new.records f ≡ appended chain p = records_of f y ∙ ap (λ (x : Place). appended (s.records x) p) same_extent in
             subst (λ (xs : List Place). NamesEnds g xs) (sym whole) (record {
-              first = sym (ap ext_first i) ∙ ap (λ (x : Place). ext_first (new.heap x)) same_extent ∙ first_aft s p h rest a hh list before rs here there one stands blocks (rs.ends (p.0, a) hh there).first;
+              first = sym (ap ext_first i) ∙ ap (λ (x : Place). ext_first (new.heap x)) same_extent ∙ first_aft s p h rest a hh list before rs here there one stands blocks own_ends.first;
               last = sym (ap ext_last i) ∙ ap (λ (x : Place). ext_last (new.heap x)) same_extent ∙ last_aft s p h rest a hh list before rs here there one stands blocks ∙ ap loc_or (sym (last_new chain p));
             })
         | inr n ↦
@@ -192,8 +194,11 @@ module _ (s : Shape) (p : Place) (h : DeletedHeader) (rest : List ℕ) (a : ℕ)
               last = sym (ap ext_last i) ∙ last_other s p h rest a hh list before rs here there one stands blocks f ne n ∙ ap ext_last t.is ∙ names.last;
             })
       ]
+    where
+      one_name : (x y : ExtentHeader) → Some (extent x) ≡ Some (extent y) → y.namespace ≡ x.namespace
+      one_name x y e = (let heads : x ≡ y = cc in ap (λ (h : ExtentHeader). h.namespace) (sym heads))
 
-  pub records_stand : RecordsStand new
+  pub records_stand : RecordsStand free new
   records_stand = record { linked = linked_new; on_chain = on_chain_new; all = all_new; ends = ends_new }
 
   -- ---- the lists

@@ -1,5 +1,5 @@
 -- The records of extents, one extent behind the other.
-use Rattle.std.proofs.Common.{◌≡◌, ℕ, pos, negsuc, ◌+◌, ◌≤◌, inl, inr, true, false, List, [], ◌∷◌, ◌++◌, length, Option, Some, None, refl, sym, ◌∙◌, ap, arith, length-append, append_assoc}
+use Rattle.std.proofs.Common.{◌≡◌, ◌≢◌, ℕ, pos, negsuc, ◌+◌, ◌≤◌, inl, inr, true, false, List, [], ◌∷◌, ◌++◌, length, Option, Some, None, refl, sym, ◌∙◌, ap, arith, length-append, append_assoc}
 use Rattle.std.specs.Prelude.{flat_map}
 use Rattle.std.specs.Option.{option_map}
 use Rattle.std.proofs.lemmas.Bool.{cases_Bool, false≢true}
@@ -7,6 +7,7 @@ use Rattle.mm_base.specs.Bytes.{part}
 use Rattle.mm_base.specs.Places.{null}
 use Rattle.mm_base.specs.declared.place.DiskLoc.{DiskLoc}
 use Rattle.mm_ranges.specs.Overlay.{Image, bytes_at}
+use Rattle.mm_frames.specs.Texts.{text_in}
 use Rattle.mm_frames.specs.ExtentHeader.{extent_header_of}
 use Rattle.mm_frames.specs.declared.extent_header.ExtentHeader.{ExtentHeader}
 use Rattle.mm_links.specs.Links.{Place, same, has, once, first_of, next_in}
@@ -18,6 +19,7 @@ use Rattle.mm_extents.proofs.FileLaws.{low_place}
 use Rattle.mm_extents.proofs.Spots.{low_file}
 use Rattle.mm_extents.proofs.Walks.{not_longer, has_middle, next_middle}
 use Rattle.mm_records.specs.Shape.{Shape}
+use Rattle.mm_records.specs.Stands.{NamesEnds}
 use Rattle.mm_records.specs.Walking.{IsRest, IsAhead}
 
 -- ---- lists one behind the other
@@ -107,6 +109,12 @@ module _ (image : Image) (free : List ℕ) (s : Shape) (name : List ℕ) (whole 
       there : s.heap e ≡ Some (extent h)
       there = let st = w.now.stands in let x = st.extents.on_chain name e on_chain in x.1 ∙ ap (λ (g : ExtentHeader). Some (extent g)) (sym (read ∙ st.heap.shown e (extent x.0) x.1))
 
+      used : text_in h.namespace ≢ free
+      used z = let st = w.now.stands in let x = st.extents.on_chain name e on_chain in w.now.isnt_free (sym x.2 ∙ ap (λ (g : ExtentHeader). text_in g.namespace) (sym (read ∙ st.heap.shown e (extent x.0) x.1)) ∙ z)
+
+      ends : NamesEnds h (s.records e)
+      ends = w.now.stands.records.ends e h there used
+
       low_first : LowOr (first_of (s.records e))
       low_first = by (first_of (s.records e)) refl
         where
@@ -119,16 +127,16 @@ module _ (image : Image) (free : List ℕ) (s : Shape) (name : List ℕ) (whole 
       found ne = by (first_of (s.records e)) refl
         where
           by : (o : Option Place) → first_of (s.records e) ≡ o → Some h.first_record ≡ option_map loc (first_of (flat_map s.records whole))
-          by None j = absurd (ne ((w.now.stands.records.ends e h there).first ∙ ap loc_or j))
+          by None j = absurd (ne (ends.first ∙ ap loc_or j))
           by (Some p) j =
               let first : first_of (flat_map s.records w.rest) ≡ Some p = ap (λ (xs : List Place). first_of (flat_map s.records xs)) rest_is ∙ first_over (s.records e) (flat_map s.records rest_of) p j in
-              ap (λ (x : DiskLoc). Some x) ((w.now.stands.records.ends e h there).first ∙ ap loc_or j) ∙ ap (λ (o : Option Place). option_map loc o) (sym first ∙ w.same_first)
+              ap (λ (x : DiskLoc). Some x) (ends.first ∙ ap loc_or j) ∙ ap (λ (o : Option Place). option_map loc o) (sym first ∙ w.same_first)
 
       -- none, and the next extent
       pub further : h.first_record ≡ null → IsAhead image free s name whole (steps + 1) h.xnext
       further z =
           let st = w.now.stands in
-          let none = names_none h.first_record (first_of (s.records e)) (st.records.ends e h there).first low_first z in
+          let none = names_none h.first_record (first_of (s.records e)) ends.first low_first z in
           let middle : s.extents name ≡ w.now.before ++ e ∷ rest_of = w.now.is ∙ ap (λ (xs : List Place). w.now.before ++ xs) rest_is in
           let count = w.count in
           let long = ap (λ (xs : List Place). length xs) rest_is in
@@ -136,6 +144,7 @@ module _ (image : Image) (free : List ℕ) (s : Shape) (name : List ℕ) (whole 
             rest = rest_of;
             now = record {
               stands = st;
+              isnt_free = w.now.isnt_free;
               before = w.now.before ++ e ∷ [];
               is = middle ∙ sym (append_assoc w.now.before (e ∷ []) rest_of);
               here = sym (ap ext_next there) ∙ (st.extents.linked name).behind e on_chain ∙ ap loc_or (ap (λ (xs : List Place). next_in xs e) middle ∙ next_middle w.now.before e rest_of (ap once (sym middle) ∙ (st.extents.linked name).no_twice));

@@ -24,7 +24,7 @@ pub record StandsWith (image : Image) (free : List ℕ) (s : Shape) (node : ℕ)
   pub tiled : IsTiled (ground s.heap) (unused_in image) free
   pub extents : ExtentsStand s.heap s.extents
   pub owners : (p : Place) (h : ExtentHeader) → s.heap p ≡ Some (extent h) → HasNode image (text_in h.namespace)
-  pub records : RecordsStand s
+  pub records : RecordsStand free s
   pub lists : ListsStand s
   pub is_node : IsNode image free node
   pub own : DetailsStand s (name_at image node) d

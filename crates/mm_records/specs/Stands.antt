@@ -36,12 +36,12 @@ pub record NamesEnds (h : ExtentHeader) (xs : List Place) : Type 0 where
   pub first : h.first_record ≡ loc_or (first_of xs)
   pub last : h.last_record ≡ loc_or (last_of xs)
 
--- Each live record is once on the chain of its extent, and a chain holds nothing else.
-pub record RecordsStand (s : Shape) : Type 0 where
+-- Each live record is once on the chain of its extent, and a chain holds nothing else. The extents of a namespace name the ends of their chains; what free extents name is any.
+pub record RecordsStand (free : List ℕ) (s : Shape) : Type 0 where
   pub linked : (e : Place) → IsLinked ofs_or (s.records e) (λ p. rec_next (s.heap p)) (λ p. rec_prev (s.heap p))
   pub on_chain : (e p : Place) → has (s.records e) p ≡ true → IsRecord s.heap e p
   pub all : (p : Place) (h : RecHeader) (room : List ℕ) (a : ℕ) → s.heap p ≡ Some (live h room) → h.extent_ofs ≡ pos a → has (s.records (p.0, a)) p ≡ true
-  pub ends : (e : Place) (h : ExtentHeader) → s.heap e ≡ Some (extent h) → NamesEnds h (s.records e)
+  pub ends : (e : Place) (h : ExtentHeader) → s.heap e ≡ Some (extent h) → text_in h.namespace ≢ free → NamesEnds h (s.records e)
 
 -- ---- deleted blocks
 
@@ -113,7 +113,7 @@ ns_in image = bytes_at image NS_FILE
 abbrev pub HasNode : Image → List ℕ → Type 0
 HasNode image name = (held : Held) × (get (table_of (ns_in image)) name ≡ Some held)
 
--- Points 1 and 3 to 5 hold of the files, which have this shape. `free` is the name of the node of the free chain, which point 5 leaves out.
+-- Points 1 and 3 to 5 hold of the files, which have this shape. `free` is the name of the node of the free chain, which points 4 and 5 leave out.
 pub record Stands (image : Image) (free : List ℕ) (s : Shape) : Type 0 where
   pub files : FilesStand image
   pub table : IsTable (ns_in image)
@@ -121,7 +121,7 @@ pub record Stands (image : Image) (free : List ℕ) (s : Shape) : Type 0 where
   pub tiled : IsTiled (ground s.heap) (unused_in image) free
   pub extents : ExtentsStand s.heap s.extents
   pub owners : (p : Place) (h : ExtentHeader) → s.heap p ≡ Some (extent h) → HasNode image (text_in h.namespace)
-  pub records : RecordsStand s
+  pub records : RecordsStand free s
   pub lists : ListsStand s
   pub counts : (name : List ℕ) (held : Held) → get (table_of (ns_in image)) name ≡ Some held → name ≢ free → DetailsStand s name held.details
   pub free_chain : (held : Held) × FreeStands image free s held

@@ -1,5 +1,5 @@
 -- Walking over the extents of a namespace.
-use Rattle.std.specs.Prelude.{◌≡◌, ℕ, ◌+◌, List, ◌++◌, length, flat_map}
+use Rattle.std.specs.Prelude.{◌≡◌, ◌≢◌, ℕ, ◌+◌, List, ◌++◌, length, flat_map}
 use Rattle.mm_base.specs.declared.place.DiskLoc.{DiskLoc}
 use Rattle.mm_ranges.specs.Overlay.{Image}
 use Rattle.mm_links.specs.Links.{Place, first_of}
@@ -10,6 +10,7 @@ use Rattle.mm_records.specs.Stands.{Stands}
 -- the extents of a name from the one on that a frame names
 pub record IsRest (image : Image) (free : List ℕ) (s : Shape) (name : List ℕ) (rest : List Place) (at : DiskLoc) : Type 0 where
   pub stands : Stands image free s
+  pub isnt_free : name ≢ free
   pub before : List Place
   pub is : s.extents name ≡ before ++ rest
   pub here : at ≡ loc_or (first_of rest)
