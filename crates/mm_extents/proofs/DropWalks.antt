@@ -1,6 +1,6 @@
 -- A walk along the extents that become free.
 use Rattle.std.proofs.Common.{◌≡◌, ℕ, pos, ◌+◌, ◌≤◌, inl, inr, true, false, List, [], ◌∷◌, ◌++◌, length, Option, Some, None, refl, sym, ◌∙◌, ap, subst, arith, length-append, append_assoc}
-use Rattle.std.proofs.lemmas.Bool.{false≢true}
+use Rattle.std.proofs.lemmas.Bool.{cases_Bool, false≢true}
 use Rattle.std.proofs.lemmas.List.{append-nil}
 use Rattle.mm_base.specs.Bytes.{padded}
 use Rattle.mm_base.specs.declared.place.DiskLoc.{DiskLoc}
@@ -9,15 +9,30 @@ use Rattle.mm_frames.specs.Texts.{text_in}
 use Rattle.mm_frames.specs.declared.extent_header.ExtentHeader.{ExtentHeader}
 use Rattle.mm_frames.specs.declared.free_ends.FreeEnds.{FreeEnds}
 use Rattle.mm_links.specs.Links.{Place, same, has, once, first_of, last_of, next_in, appended}
-use Rattle.mm_links.proofs.LinkLaws.{same_own, same_not, next_here, next_there, has_here, has_more, once_parts}
+use Rattle.mm_links.proofs.LinkLaws.{same_own, same_not, next_here, next_there, has_here, has_there, has_more, has_last, once_parts}
 use Rattle.mm_links.proofs.Appending.{has_appended, has_stays, has_new}
 use Rattle.mm_extents.specs.Heap.{Cell, extent, Heap}
-use Rattle.mm_extents.specs.Changes.{loc, loc_or, LowOr}
+use Rattle.mm_extents.specs.Changes.{loc, loc_or, LowOr, xnext_set}
 use Rattle.mm_extents.specs.FreeExtents.{HasFree, next_passed, without_links}
 use Rattle.mm_extents.specs.Dropping.{within, header_freed, IsUsed, joined, AreUsed, AreFreed}
 use Rattle.mm_extents.proofs.FileLaws.{low_place}
 use Rattle.mm_extents.proofs.Walks.{not_longer}
-use Rattle.mm_extents.proofs.DropSteps.{freed_here, used_stays, links_stay, next_only}
+use Rattle.mm_extents.proofs.Writes.{changed_there}
+use Rattle.mm_extents.proofs.DropSteps.{freed_here, freed_there, used_stays, links_stay, next_only}
+
+has_none : (xs ys : List Place) (q : Place) → has xs q ≡ false → has ys q ≡ false → has (xs ++ ys) q ≡ false
+has_none [] ys q a b = b
+has_none (x ∷ xs) ys q a b = elim (cases_Bool (same x q)) [
+  | inl y ↦ absurd (false≢true (sym a ∙ has_here x xs q y))
+  | inr n ↦ has_there x (xs ++ ys) q n ∙ has_none xs ys q (sym (has_there x xs q n) ∙ a) b
+]
+
+off_before : (xs : List Place) (z q : Place) → has (appended xs z) q ≡ false → has xs q ≡ false
+off_before xs z q b = elim (cases_Bool (has xs q)) [ inl y ↦ absurd (false≢true (sym b ∙ has_stays xs z q y)) | inr n ↦ n ]
+
+passed_off : (o : Option Place) (z : DiskLoc) (H : Heap) (q : Place) → ((x : Place) → o ≡ Some x → same x q ≡ false) → next_passed o z H q ≡ H q
+passed_off None z H q n = refl
+passed_off (Some x) z H q n = changed_there x q (xnext_set z) H (n x refl)
 
 -- how far the extents have become free ones
 pub record IsDropped (now : Image) (db : List ℕ) (heap : Heap) (chain ps : List Place) (ends : FreeEnds) (steps : ℕ) (at : DiskLoc) : Type 0 where
@@ -27,7 +42,7 @@ pub record IsDropped (now : Image) (db : List ℕ) (heap : Heap) (chain ps : Lis
   pub count : length before ≡ steps
   pub t : Heap
   pub frees : HasFree now db t (chain ++ before) ends
-  pub freed : AreFreed heap t db before
+  pub freed : AreFreed heap t db chain before
   pub left : AreUsed t db rest at
   pub as_before : (q : Place) → has rest q ≡ true → t q ≡ heap q
 
@@ -39,7 +54,7 @@ start image db heap chain ps ends first f u = record {
   count = refl;
   t = heap;
   frees = subst (λ (xs : List Place). HasFree image db heap xs ends) (sym (append-nil chain)) f;
-  freed = record { freed = λ p h on i. absurd (false≢true on); others = λ q o. refl };
+  freed = record { freed = λ p h on i. absurd (false≢true on); others = λ q o. refl; same_off = λ q a b o. refl };
   left = u;
   as_before = λ q on. refl;
 }
@@ -73,13 +88,13 @@ module _ (now : Image) (db : List ℕ) (heap : Heap) (chain ps : List Place) (en
           let long = ap length i ∙ length-append w.before (y ∷ ys) in
           omega (arith, count, long)
 
-  pub dropped_all : first_of w.rest ≡ None → (t : Heap) × (HasFree now db t (chain ++ ps) ends × AreFreed heap t db ps)
+  pub dropped_all : first_of w.rest ≡ None → (t : Heap) × (HasFree now db t (chain ++ ps) ends × AreFreed heap t db chain ps)
   dropped_all e = by w.rest w.is e
     where
-      by : (xs : List Place) → ps ≡ w.before ++ xs → first_of xs ≡ None → (t : Heap) × (HasFree now db t (chain ++ ps) ends × AreFreed heap t db ps)
+      by : (xs : List Place) → ps ≡ w.before ++ xs → first_of xs ≡ None → (t : Heap) × (HasFree now db t (chain ++ ps) ends × AreFreed heap t db chain ps)
       by [] i f =
           let all : w.before ≡ ps = sym (i ∙ append-nil w.before) in
-          (w.t, (subst (λ (xs : List Place). HasFree now db w.t (chain ++ xs) ends) all w.frees, subst (λ (xs : List Place). AreFreed heap w.t db xs) all w.freed))
+          (w.t, (subst (λ (xs : List Place). HasFree now db w.t (chain ++ xs) ends) all w.frees, subst (λ (xs : List Place). AreFreed heap w.t db chain xs) all w.freed))
       by (y ∷ ys) i f = absurd cc
 
   -- one more
@@ -120,6 +135,12 @@ module _ (now : Image) (db : List ℕ) (heap : Heap) (chain ps : List Place) (en
                 let mine = o z u.h n (has_new w.before z) (sym here ∙ u.is) u.long in
                 links_stay now db w.t (chain ++ w.before) ends w.frees z n u named q mine.0 mine.1
                 ∙ w.freed.others q (λ p h m on. o p h m (has_stays w.before z p on));
+            same_off = λ q a b o.
+                let ne = same_not z q (λ g. false≢true (sym b ∙ ap (has (appended w.before z)) (sym g) ∙ has_new w.before z)) in
+                let off = off_before w.before z q b in
+                freed_there z n (header_freed z db (pos n) ends.last) (next_passed (last_of (chain ++ w.before)) (loc z) w.t) q ne (o z u.h n (has_new w.before z) (sym here ∙ u.is) u.long)
+                ∙ passed_off (last_of (chain ++ w.before)) (loc z) w.t q (λ x f. same_not x q (λ g. false≢true (sym (has_none chain w.before q a off) ∙ ap (has (chain ++ w.before)) (sym g) ∙ has_last (chain ++ w.before) x f)))
+                ∙ w.freed.same_off q a off (λ p h m on. o p h m (has_stays w.before z p on));
           };
           left = record {
             head = goes ∙ ap loc_or (ap (λ (ys : List Place). next_in ys z) e ∙ next_here z xs z (same_own z));

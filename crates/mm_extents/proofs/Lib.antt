@@ -17,6 +17,7 @@ pub mod HeaderWrites
 pub mod CutSteps
 pub mod RoomFalls
 pub mod MadeFiles
+pub mod FirstFile
 pub mod NewExtents
 pub mod Drops
 pub mod DropSteps

@@ -25,7 +25,7 @@ use Rattle.mm_extents.specs.Changes.{written, len_of}
 use Rattle.mm_extents.specs.Files.{file_len, header_with, header_unused, unused_in, IsHeader, FilesStand}
 use Rattle.mm_extents.specs.Tiling.{Outline, ground, IsTiled}
 use Rattle.mm_extents.specs.FreeExtents.{HasFree}
-use Rattle.mm_extents.specs.Rests.{IsLast, NoRest, IsMade}
+use Rattle.mm_extents.specs.Rests.{IsLast, NoRest, IsMade, IsLastShort}
 use Rattle.mm_extents.proofs.Fields.{read_is}
 use Rattle.mm_extents.proofs.FileLaws.{file_len_most}
 use Rattle.mm_extents.proofs.Writes.{shows_same, laid_elsewhere, len_laid}
@@ -331,11 +331,12 @@ module _ (image : Image) (k u len : ℕ) (last : IsLast image k) (known : unused
       let number : v ≡ u = cc in
       (same, number)
 
+  -- the last file has fewer bytes
+  pub last_short : file_len k < u + len → IsLastShort image len
+  last_short few j v l e = let one = one_unused j v l e in let f = ap file_len one.0 in let g = one.1 in omega (arith, few, f, g)
+
   pub no_rest : file_len k < u + len → ((j : ℕ) → j < 8 → len_of image j ≡ None → file_len j < 8192 + len) → NoRest image len
-  no_rest few others = record {
-    last = λ j v l e. let one = one_unused j v l e in let f = ap file_len one.0 in let g = one.1 in omega (arith, few, f, g);
-    others = others;
-  }
+  no_rest few others = record { last = last_short few; others = others }
 
   -- there is room in the last file
   pub some_rest : u + len ≤ file_len k → NoRest image len → ⊥

@@ -12,6 +12,7 @@ use Rattle.mm_links.specs.Links.{Place, has, without}
 use Rattle.mm_extents.specs.Heap.{Cell, extent, Heap}
 use Rattle.mm_extents.specs.Changes.{loc, IsLow}
 use Rattle.mm_extents.specs.Tiling.{outline}
+use Rattle.mm_extents.specs.Rests.{IsNextRest}
 use Rattle.mm_extents.specs.FreeExtents.{HasFree, AllShorter, IsFirstFree, without_links, IsReused, IsCutOff, IsMadeOf}
 use Rattle.mm_extents.proofs.FileLaws.{low_place}
 use Rattle.mm_extents.proofs.Walks.{has_middle}
@@ -26,9 +27,9 @@ first_on heap chain len e x = ap (λ (ps : List Place). has ps e) x.is ∙ has_m
 pub first_low : (image : Image) (db : List ℕ) (heap : Heap) (chain : List Place) (ends : FreeEnds) (len : ℕ) (e : Place) → HasFree image db heap chain ends → IsFirstFree heap chain len e → IsLow e
 first_low image db heap chain ends len e f x = let y = f.on_chain e (first_on heap chain len e x) in low_place image heap e (extent y.0) f.files f.shown y.1
 
-pub of_reused : (image : Image) (db : List ℕ) (heap t : Heap) (chain : List Place) (ends : FreeEnds) (name : List ℕ) (len n : ℕ) (e : Place) (at : DiskLoc) → at ≡ loc e → IsFirstFree heap chain len e
-    → HasFree image db t (without e chain) ends → IsReused heap t chain e name n → IsMadeOf image db heap chain ends name len at
-of_reused image db heap t chain ends name len n e at is x f r = (
+pub of_reused : (old image : Image) (db : List ℕ) (heap t : Heap) (chain : List Place) (ends : FreeEnds) (name : List ℕ) (len n : ℕ) (e : Place) (at : DiskLoc) → at ≡ loc e → IsFirstFree heap chain len e
+    → HasFree image db t (without e chain) ends → IsReused heap t chain e name n → IsMadeOf old image db heap chain ends name len at
+of_reused old image db heap t chain ends name len n e at is x f r = (
   t,
   (
     e,
@@ -58,9 +59,9 @@ of_reused image db heap t chain ends name len n e at is x f r = (
   ),
 )
 
-pub of_cut : (image : Image) (db : List ℕ) (heap t : Heap) (chain : List Place) (ends : FreeEnds) (name : List ℕ) (len : ℕ) (e : Place) (at : DiskLoc) → at ≡ loc e → AllShorter heap len chain
-    → HasFree image db t chain ends → IsCutOff heap t e name len → IsMadeOf image db heap chain ends name len at
-of_cut image db heap t chain ends name len e at is short f c = (
+pub of_cut : (old image : Image) (db : List ℕ) (heap t : Heap) (chain : List Place) (ends : FreeEnds) (name : List ℕ) (len : ℕ) (e : Place) (at : DiskLoc) → at ≡ loc e → AllShorter heap len chain → IsNextRest old e len
+    → HasFree image db t chain ends → IsCutOff heap t e name len → IsMadeOf old image db heap chain ends name len at
+of_cut old image db heap t chain ends name len e at is short next f c = (
   t,
   (
     e,
@@ -73,7 +74,7 @@ of_cut image db heap t chain ends name len e at is short f c = (
           (
             f,
             record {
-              placed = inr (short, c.none, refl, refl);
+              placed = inr (short, c.none, refl, refl, next);
               long = omega arith;
               empty = c.empty;
               here = c.here;

@@ -39,7 +39,8 @@ pub record AreUsed (heap : Heap) (free : List ℕ) (ps : List Place) (first : Di
   pub no_twice : once ps ≡ true
   pub each : (p : Place) → has ps p ≡ true → (n : ℕ) × ((u : IsUsed heap free p n) × (u.h.xnext ≡ loc_or (next_in ps p)))
 
--- Each of these extents has its length, the free name and null record places. Nothing is said of their insides; of all else only the links of free extents change.
-pub record AreFreed (heap t : Heap) (free : List ℕ) (ps : List Place) : Type 0 where
+-- Each of these extents has its length, the free name and null record places. Nothing is said of their insides; of all else only the links of the chain of free extents change.
+pub record AreFreed (heap t : Heap) (free : List ℕ) (chain ps : List Place) : Type 0 where
   pub freed : (p : Place) (h : ExtentHeader) → has ps p ≡ true → heap p ≡ Some (extent h) → (next : DiskLoc) × ((prev : DiskLoc) × (t p ≡ Some (extent (record (header_freed p free h.len prev) { xnext = next }))))
   pub others : (q : Place) → ((p : Place) (h : ExtentHeader) (n : ℕ) → has ps p ≡ true → heap p ≡ Some (extent h) → h.len ≡ pos n → (same p q ≡ false) × (within p n q ≡ false)) → without_links (t q) ≡ without_links (heap q)
+  pub same_off : (q : Place) → has chain q ≡ false → has ps q ≡ false → ((p : Place) (h : ExtentHeader) (n : ℕ) → has ps p ≡ true → heap p ≡ Some (extent h) → h.len ≡ pos n → within p n q ≡ false) → t q ≡ heap q

@@ -1,5 +1,5 @@
 -- The files of a database and their headers (MongoDB 2.6, MMAPv1).
-use Rattle.std.specs.Prelude.{◌≡◌, ℕ, ℤ, suc, ◌-◌, ◌*◌, ◌^◌, ◌<◌, ◌≤◌, min, List, length, Option, Some, None, if◌then◌else◌, nat_lt, ◌==◌}
+use Rattle.std.specs.Prelude.{◌≡◌, ℕ, ℤ, pos, suc, ◌-◌, ◌*◌, ◌^◌, ◌<◌, ◌≤◌, min, List, length, Option, Some, None, if◌then◌else◌, nat_lt, ◌==◌}
 use Rattle.mm_base.specs.Bytes.{part}
 use Rattle.mm_ranges.specs.Overlay.{Image, bytes_at}
 use Rattle.mm_ranges.specs.declared.limits.TheConstants.{NS_FILE}
@@ -36,3 +36,12 @@ header_unused header = if length header == 8192 then Some (file_header_of header
 
 abbrev pub unused_in : Image → ℕ → Option ℤ
 unused_in image file = if nat_lt file 8 then header_unused (part 0 8192 (bytes_at image file)) else None
+
+-- There is `.ns`, of 1 to 16 whole MiB, and no data file.
+pub record HasNamesAlone (image : Image) : Type 0 where
+  pub names : (mib : ℕ) × (1 ≤ mib) × (mib ≤ 16) × (len_of image NS_FILE ≡ Some (mib * 1048576))
+  pub none : (k : ℕ) → k < 8 → len_of image k ≡ None
+
+-- The data files have no extents: the unused rest of each begins behind its header.
+abbrev pub AreUnused : Image → Type 0
+AreUnused image = (k u : ℕ) → unused_in image k ≡ Some (pos u) → 8192 ≡ u

@@ -13,7 +13,7 @@ use Rattle.mm_links.specs.Links.{Place, same, has, once, first_of, last_of, next
 use Rattle.mm_extents.specs.Heap.{Cell, extent, live, deleted, size, Heap, IsHeap, change}
 use Rattle.mm_extents.specs.Changes.{loc, loc_or, LowOr, xnext_set, xprev_set, behind_of, put_two}
 use Rattle.mm_extents.specs.Files.{FilesStand, unused_in}
-use Rattle.mm_extents.specs.Rests.{NoRest}
+use Rattle.mm_extents.specs.Rests.{NoRest, IsNextRest}
 use Rattle.mm_extents.specs.Tiling.{ground, IsTiled}
 use Rattle.mm_extents.specs.Chains.{ext_next, ext_prev}
 
@@ -156,13 +156,13 @@ pub record IsCutOff (heap t : Heap) (e : Place) (name : List ℕ) (n : ℕ) : Ty
 
 -- ---- either of the two
 
--- Which place it is: the first free extent of so many bytes, which keeps its length and leaves the free chain; or, where none has as many, a place where nothing stood.
-abbrev pub IsPlaced : Heap → List Place → List Place → Place → ℕ → ℕ → Type 0
-IsPlaced heap chain chain' e len n = (IsFirstFree heap chain len e × (has chain e ≡ true) × (chain' ≡ without e chain)) ⊎ (AllShorter heap len chain × (heap e ≡ None) × (chain' ≡ chain) × (n ≡ len))
+-- Which place it is: the first free extent of so many bytes, which keeps its length and leaves the free chain; or, where none has as many, where the files next have them, and nothing stood there.
+abbrev pub IsPlaced : Image → Heap → List Place → List Place → Place → ℕ → ℕ → Type 0
+IsPlaced image heap chain chain' e len n = (IsFirstFree heap chain len e × (has chain e ≡ true) × (chain' ≡ without e chain)) ⊎ (AllShorter heap len chain × (heap e ≡ None) × (chain' ≡ chain) × (n ≡ len) × IsNextRest image e len)
 
 -- At e there is an extent of a namespace, of n bytes and without records, whose whole room is one deleted block. Of all else only the links of free extents change.
-pub record IsNewExtent (heap t : Heap) (chain chain' : List Place) (e : Place) (name : List ℕ) (len n : ℕ) : Type 0 where
-  pub placed : IsPlaced heap chain chain' e len n
+pub record IsNewExtent (image : Image) (heap t : Heap) (chain chain' : List Place) (e : Place) (name : List ℕ) (len n : ℕ) : Type 0 where
+  pub placed : IsPlaced image heap chain chain' e len n
   pub long : len ≤ n
   pub empty : heap (behind_of e 176) ≡ None
   pub here : t e ≡ Some (extent (header_made e name n))
@@ -177,6 +177,6 @@ pub record NoExtent (image : Image) (heap : Heap) (chain : List Place) (len : �
   pub short : AllShorter heap len chain
   pub no_rest : NoRest image len
 
--- The new extent at the place that a frame names so, and the free extents without it: what the files hold then.
-abbrev pub IsMadeOf : Image → List ℕ → Heap → List Place → FreeEnds → List ℕ → ℕ → DiskLoc → Type 0
-IsMadeOf image free heap chain ends name len at = (t : Heap) × ((e : Place) × ((n : ℕ) × ((chain' : List Place) × ((at ≡ loc e) × (HasFree image free t chain' ends × IsNewExtent heap t chain chain' e name len n)))))
+-- The new extent at the place that a frame names so, and the free extents without it: what the files hold then, which were this image and heap before.
+abbrev pub IsMadeOf : Image → Image → List ℕ → Heap → List Place → FreeEnds → List ℕ → ℕ → DiskLoc → Type 0
+IsMadeOf old image free heap chain ends name len at = (t : Heap) × ((e : Place) × ((n : ℕ) × ((chain' : List Place) × ((at ≡ loc e) × (HasFree image free t chain' ends × IsNewExtent old heap t chain chain' e name len n)))))

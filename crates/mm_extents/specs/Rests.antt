@@ -1,5 +1,5 @@
 -- The unused rest of the last data file, and the files that aren't there yet.
-use Rattle.std.specs.Prelude.{◌≡◌, ℕ, pos, ◌+◌, ◌<◌, ◌≤◌, Some, None}
+use Rattle.std.specs.Prelude.{◌≡◌, ℕ, pos, ◌+◌, ◌<◌, ◌≤◌, ◌⊎◌, Some, None}
 use Rattle.mm_ranges.specs.Overlay.{Image}
 use Rattle.mm_links.specs.Links.{Place}
 use Rattle.mm_extents.specs.Changes.{len_of}
@@ -29,3 +29,11 @@ pub record IsMade (image : Image) (at : Place) (len : ℕ) : Type 0 where
   pub absent : len_of image at.0 ≡ None
   pub front : at.1 ≡ 8192
   pub shorter : (k : ℕ) → k < at.0 → len_of image k ≡ None → file_len k < 8192 + len
+
+-- the unused rest of the last file has fewer bytes
+abbrev pub IsLastShort : Image → ℕ → Type 0
+IsLastShort image len = (k u : ℕ) → IsLast image k → unused_in image k ≡ Some (pos u) → file_len k < u + len
+
+-- Where the files next have so many bytes: at the unused rest of the last one; or, where that is too short, behind the header of the first that isn't there yet and has them.
+abbrev pub IsNextRest : Image → Place → ℕ → Type 0
+IsNextRest image at len = (IsLast image at.0 × IsRest image at len) ⊎ (IsLastShort image len × IsMade image at len × (at.1 + len ≤ file_len at.0))

@@ -83,7 +83,7 @@ pub fn free_extents(
 ) -> Result<(), NoMemory>
     requires { (heap : Heap) × ((chain : List Place) × ((ps : List Place) × (HasFree draft.old.image name.now heap chain free.old × AreUsed heap name.now ps first))) }
     ensures ok { OnOk result ((heap : Heap) (chain ps : List Place) → HasFree draft.old.image name.now heap chain free.old → AreUsed heap name.now ps first
-        → (t : Heap) × (HasFree draft.new.image name.now t (chain ++ ps) free.new × AreFreed heap t name.now ps)) }
+        → (t : Heap) × (HasFree draft.new.image name.now t (chain ++ ps) free.new × AreFreed heap t name.now chain ps)) }
     ensures kept { OnOk result (KeepsHeaders draft.old.image draft.new.image) }
     ensures weight { (heap : Heap) (chain ps : List Place) → HasFree draft.old.image name.now heap chain free.old → AreUsed heap name.now ps first → DeclaresAtMost (376 * length ps) draft.old draft.new }
 {

@@ -7,6 +7,7 @@
 //!   `ExtentsStand` that each extent is once on the chain of the name that it has.
 //! - Each `set_x` writes one field of one frame: the heap changes at that place alone (`change`), and every other cell, of whatever
 //!   namespace, is as it was. It declares that frame alone (`weight`).
+//! - `make_first` makes the first data file of a database, without extents.
 //! - `next_extent` answers the extent behind another.
 //! - `new_extent` makes one: the first free extent that is long enough, else bytes of the last file's unused rest, else of files that it
 //!   makes, up to the eighth (`IsNewExtent`, specs/FreeExtents; `IsRest`, specs/Rests). `NoSpace` comes exactly where none of these has as
@@ -35,5 +36,6 @@ pub use cells::{
 pub use chains::next_extent;
 pub use dropping::free_extents;
 pub use fault::SpaceFault;
+pub use made_files::make_first;
 pub use new_extents::new_extent;
 pub use places::{Spot, link, named_spot, natural, no_place, place, spot_of};

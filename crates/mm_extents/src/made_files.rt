@@ -10,8 +10,8 @@ ghost use Rattle.mm_links.specs.Links.{Place};
 ghost use Rattle.mm_extents.specs.Heap.{Heap};
 ghost use Rattle.mm_extents.specs.Changes.{written, len_of, DeclaresAtMost};
 ghost use Rattle.mm_extents.specs.Files as files;
-ghost use Rattle.mm_extents.specs.Files.{FilesStand};
-ghost use Rattle.mm_extents.specs.Rests.{IsLast, IsRest, NoRest, IsMade};
+ghost use Rattle.mm_extents.specs.Files.{FilesStand, HasNamesAlone, AreUnused};
+ghost use Rattle.mm_extents.specs.Rests.{IsLast, IsRest, NoRest, IsMade, IsNextRest};
 ghost use Rattle.mm_extents.specs.Room.{room, LowersRoom};
 ghost use Rattle.mm_extents.specs.FreeExtents.{HasFree};
 
@@ -66,6 +66,18 @@ pub(crate) fn put_fields(draft: &mut Draft, file: u32, unused: u32) -> Result<()
 {
     let frame = file_header_frame(&header_of(file, unused));
     overwrite(draft, Spot { file, ofs: 0 }, &frame[..HEADER_FIELDS_LEN])
+}
+
+/// Makes data file 0 without extents, where there is `.ns` and no data file. After an error the draft is to be dropped.
+pub fn make_first(draft: &mut Draft) -> Result<(), NoMemory>
+    requires { HasNamesAlone draft.old.image }
+    ensures files { OnOk result (FilesStand draft.new.image) }
+    ensures empty { OnOk result (AreUnused draft.new.image) }
+    ensures ns { OnOk result (bytes_at draft.new.image NS_FILE ≡ bytes_at draft.old.image NS_FILE) }
+    ensures weight { DeclaresAtMost 48 draft.old draft.new }
+{
+    draft.add_file(0, file_len(0))?;
+    put_fields(draft, 0, FILE_HEADER_LEN as u32)
 }
 
 // Makes a data file behind the last one.
@@ -140,6 +152,7 @@ pub(crate) fn rest_of(draft: &mut Draft, len: u32) -> Result<Spot, SpaceFault>
     requires { FilesStand draft.old.image }
     ensures stands { OnOk result ((db : List ℕ) (heap : Heap) (chain : List Place) (ends : FreeEnds) → HasFree draft.old.image db heap chain ends → HasFree draft.new.image db heap chain ends) }
     ensures rest { IfOk result (λ at. IsRest draft.new.image (at.file, at.ofs) len) }
+    ensures next { IfOk result (λ at. IsNextRest draft.old.image (at.file, at.ofs) len) }
     ensures full { IsErrOf result SpaceFault.NoSpace → NoRest draft.old.image len }
     ensures some { IfOk result (λ at. NoRest draft.old.image len → ⊥) }
     ensures room { OnOk result (LowersRoom (3 * len) draft.old.image draft.new.image) }

@@ -174,7 +174,7 @@ fn reuse_new(
 ) -> Result<DiskLoc, SpaceFault>
     requires { (db : List ℕ) × ((heap : Heap) × ((chain : List Place) × (HasFree draft.old.image db heap chain free.old × IsFirstFree heap chain len (at.file, at.ofs)))) }
     ensures ok { IfOk result (λ e. (db : List ℕ) (heap : Heap) (chain : List Place) → HasFree draft.old.image db heap chain free.old → IsFirstFree heap chain len (at.file, at.ofs) → name.now ≢ db
-        → IsMadeOf draft.new.image db heap chain free.new name.now len e) }
+        → IsMadeOf draft.old.image draft.new.image db heap chain free.new name.now len e) }
     ensures memory { IsErrOf result SpaceFault.NoSpace → ⊥ }
     ensures room { OnOk result (room draft.new.image ≡ room draft.old.image) }
     ensures ns { OnOk result (bytes_at draft.new.image NS_FILE ≡ bytes_at draft.old.image NS_FILE) }
@@ -190,7 +190,7 @@ fn cut_new(draft: &mut Draft, name: &Name, len: u32) -> Result<DiskLoc, SpaceFau
     requires pages { len % 4096 ≡ 0 }
     requires some { 0 < len }
     ensures ok { IfOk result (λ e. (db : List ℕ) (heap : Heap) (chain : List Place) (ends : FreeEnds) → HasFree draft.old.image db heap chain ends → AllShorter heap len chain → name.now ≢ db
-        → IsMadeOf draft.new.image db heap chain ends name.now len e) }
+        → IsMadeOf draft.old.image draft.new.image db heap chain ends name.now len e) }
     ensures full { IsErrOf result SpaceFault.NoSpace → NoRest draft.old.image len }
     ensures space { IfOk result (λ e. NoRest draft.old.image len → ⊥) }
     ensures room { OnOk result (LowersRoom (4 * len) draft.old.image draft.new.image) }
@@ -203,7 +203,7 @@ fn cut_new(draft: &mut Draft, name: &Name, len: u32) -> Result<DiskLoc, SpaceFau
 }
 
 /// A new extent of a namespace, without records, of at least `len` bytes: the first free one that is long enough, which keeps its length; else
-/// `len` bytes of the last file's unused rest; else of files that are made behind it, up to the eighth. Its whole room is one deleted block.
+/// `len` bytes of the last file's unused rest; else of files that are made behind it, up to the first that has as many. Its whole room is one deleted block.
 /// `NoSpace` where none of these has as many. The room of the files falls by at most four times `len`. After an error the draft is to be dropped.
 pub fn new_extent(
     draft: &mut Draft,
@@ -215,7 +215,7 @@ pub fn new_extent(
     requires pages { len % 4096 ≡ 0 }
     requires some { 0 < len }
     ensures ok { IfOk result (λ e. (db : List ℕ) (heap : Heap) (chain : List Place) → HasFree draft.old.image db heap chain free.old → name.now ≢ db
-        → IsMadeOf draft.new.image db heap chain free.new name.now len e) }
+        → IsMadeOf draft.old.image draft.new.image db heap chain free.new name.now len e) }
     ensures full { IsErrOf result SpaceFault.NoSpace → (db : List ℕ) (heap : Heap) (chain : List Place) → HasFree draft.old.image db heap chain free.old → NoExtent draft.old.image heap chain len }
     ensures space { IfOk result (λ e. (db : List ℕ) (heap : Heap) (chain : List Place) → HasFree draft.old.image db heap chain free.old → NoExtent draft.old.image heap chain len → ⊥) }
     ensures room { OnOk result (LowersRoom (4 * len) draft.old.image draft.new.image) }

@@ -28,8 +28,8 @@ use Rattle.mm_records.proofs.Freed.{name_own}
 use Rattle.mm_records.proofs.AddLaws.{kept_least}
 use Rattle.mm_records.proofs.ExtendSteps.{held_at}
 
-pub alloc_found : (s t : Shape) (free name : List ℕ) (p : Place) (r list : ℕ) (before : DiskLoc) (payload : List ℕ) (b : IsChosen s name r list before p) → IsAdded s t name p r (16 + length b.rest) payload → IsAllocated s t free name p r payload
-alloc_found s t free name p r list before payload b a =
+pub alloc_found : (image : Image) (s t : Shape) (free name : List ℕ) (p : Place) (r list : ℕ) (before : DiskLoc) (payload : List ℕ) (b : IsChosen s name r list before p) → IsAdded s t name p r (16 + length b.rest) payload → IsAllocated image s t free name p r payload
+alloc_found image s t free name p r list before payload b a =
     let long = a.long in
     let least = kept_least r (16 + length b.rest) b.long in
     record {
@@ -47,9 +47,9 @@ alloc_found s t free name p r list before payload b a =
       added = a;
     }
 
-pub alloc_new : (s m t : Shape) (free name : List ℕ) (e p : Place) (r n list : ℕ) (before : DiskLoc) (payload : List ℕ) → NoBlock s name r → IsExtended s m free name (extent_len s name r) e n
-    → (b : IsChosen m name r list before p) → IsAdded m t name p r (16 + length b.rest) payload → IsAllocated s t free name p r payload
-alloc_new s m t free name e p r n list before payload none x b a =
+pub alloc_new : (image : Image) (s m t : Shape) (free name : List ℕ) (e p : Place) (r n list : ℕ) (before : DiskLoc) (payload : List ℕ) → NoBlock s name r → IsExtended image s m free name (extent_len s name r) e n
+    → (b : IsChosen m name r list before p) → IsAdded m t name p r (16 + length b.rest) payload → IsAllocated image s t free name p r payload
+alloc_new image s m t free name e p r n list before payload none x b a =
     let long = a.long in
     let least = kept_least r (16 + length b.rest) b.long in
     record {
@@ -68,8 +68,8 @@ alloc_new s m t free name e p r n list before payload none x b a =
     }
 
 -- the new extent's block is long enough
-pub some_block : (s m : Shape) (free name : List ℕ) (e : Place) (r n len : ℕ) → IsExtended s m free name len e n → r + 176 ≤ len → NoBlock m name r → ⊥
-some_block s m free name e r n len x le none =
+pub some_block : (image : Image) (s m : Shape) (free name : List ℕ) (e : Place) (r n len : ℕ) → IsExtended image s m free name len e n → r + 176 ≤ len → NoBlock m name r → ⊥
+some_block image s m free name e r n len x le none =
     let i = list_for (n - 176) in
     let test : (is_name name name && i == list_for (n - 176)) ≡ true = ap (λ (t : Bool). t && i == list_for (n - 176)) (name_own name name refl) ∙ eq-eqb i (list_for (n - 176)) refl in
     let list : m.lists name i ≡ behind_of e 176 ∷ s.lists name i = x.lists name i ∙ if_true (is_name name name && i == list_for (n - 176)) (behind_of e 176 ∷ s.lists name i) (s.lists name i) test in

@@ -262,7 +262,7 @@ module _ (image : Image) (free : List ℕ) (s : Shape) (node : ℕ) (d : Details
       );
     }
 
-  pub is_extended : IsExtended s new free name len g.e g.n
+  pub is_extended : IsExtended image s new free name len g.e g.n
   is_extended = record {
     chain = g.chain;
     placed = g.fresh.placed;

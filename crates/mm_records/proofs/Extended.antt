@@ -140,7 +140,7 @@ pub record Grows (image : Image) (free : List ℕ) (s : Shape) (node : ℕ) (d :
   pub ends : FreeEnds
   pub now : Image
   pub frees : HasFree now free t chain ends
-  pub fresh : IsNewExtent s.heap t (s.extents free) chain e (name_at image node) len n
+  pub fresh : IsNewExtent image s.heap t (s.extents free) chain e (name_at image node) len n
 
 module _ (image : Image) (free : List ℕ) (s : Shape) (node : ℕ) (d : Details) (len : ℕ) (g : Grows image free s node d len) where
   abbrev pub name : List ℕ

@@ -82,7 +82,7 @@ frees_of image free s node d st ends e = record {
 }
 
 abbrev pub grows : (image : Image) (free : List ℕ) (s : Shape) (node : ℕ) (d : Details) (st : StandsWith image free s node d) (now : Image) (ends : FreeEnds) (name : List ℕ) (len : ℕ) (at : DiskLoc) → name ≡ name_at image node
-    → IsMadeOf now free s.heap (s.extents free) ends name len at → Grows image free s node d len
+    → IsMadeOf image now free s.heap (s.extents free) ends name len at → Grows image free s node d len
 grows image free s node d st now ends name len at e m = record {
   st = st;
   t = m.0;
@@ -92,11 +92,11 @@ grows image free s node d st now ends name len at e m = record {
   ends = ends;
   now = now;
   frees = m.1.1.1.1.1.0;
-  fresh = subst (λ (x : List ℕ). IsNewExtent s.heap m.0 (s.extents free) m.1.1.1.0 m.1.0 x len m.1.1.0) e m.1.1.1.1.1.1;
+  fresh = subst (λ (x : List ℕ). IsNewExtent image s.heap m.0 (s.extents free) m.1.1.1.0 m.1.0 x len m.1.1.0) e m.1.1.1.1.1.1;
 }
 
-pub made_low : (now : Image) (free : List ℕ) (heap : Heap) (chain : List Place) (ends : FreeEnds) (name : List ℕ) (len : ℕ) (at : DiskLoc) → IsMadeOf now free heap chain ends name len at → (p : Place) × ((at ≡ loc p) × IsLow p)
-made_low now free heap chain ends name len at m =
+pub made_low : (old now : Image) (free : List ℕ) (heap : Heap) (chain : List Place) (ends : FreeEnds) (name : List ℕ) (len : ℕ) (at : DiskLoc) → IsMadeOf old now free heap chain ends name len at → (p : Place) × ((at ≡ loc p) × IsLow p)
+made_low old now free heap chain ends name len at m =
     let f = m.1.1.1.1.1.0 in
     (m.1.0, (m.1.1.1.1.0, low_place now m.0 m.1.0 (extent (header_made m.1.0 name m.1.1.0)) f.files f.shown m.1.1.1.1.1.1.here))
 
@@ -180,7 +180,7 @@ module _ (image : Image) (free : List ℕ) (s : Shape) (node : ℕ) (d : Details
       → slice_index_or d'.deleted list null ≡ loc (behind_of at 176)
       → ((i : ℕ) → i < 19 → (i == list) ≡ false → slice_index_or d'.deleted i null ≡ slice_index_or d.deleted i null)
       → d'.nrecords ≡ d.nrecords → d'.datasize ≡ d.datasize → constants_of d' ≡ constants_of d
-      → (t : Shape) × (StandsWith i3 free t node d' × ((e : Place) × ((m : ℕ) × IsExtended s t free (name_at image node) len e m)))
+      → (t : Shape) × (StandsWith i3 free t node d' × ((e : Place) × ((m : ℕ) × IsExtended image s t free (name_at image node) len e m)))
   finished head n list en el eh heap d' alone first last size hd hds nr ds cs =
       let there : loc at ≡ loc g.e = ap loc (sym here) in
       let heap' : IsHeap i3 (linked_in (last_of (s.extents (name_at image node))) g.e (loc_or (first_of (s.lists (name_at image node) (list_for (g.n - 176))))) g.t) =

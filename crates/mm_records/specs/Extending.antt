@@ -36,9 +36,9 @@ extended_shape free name e n chain heap s = record s {
 }
 
 -- The namespace has one more extent, at e and of n bytes, the last of its chain. Its whole room is a deleted block, which heads the list of its length. The maps of all namespaces stay.
-pub record IsExtended (s t : Shape) (free name : List ℕ) (len : ℕ) (e : Place) (n : ℕ) : Type 0 where
+pub record IsExtended (image : Image) (s t : Shape) (free name : List ℕ) (len : ℕ) (e : Place) (n : ℕ) : Type 0 where
   pub chain : List Place
-  pub placed : IsPlaced s.heap (s.extents free) chain e len n
+  pub placed : IsPlaced image s.heap (s.extents free) chain e len n
   pub long : len ≤ n
   pub header : ExtentHeader
   pub here : t.heap e ≡ Some (extent header)

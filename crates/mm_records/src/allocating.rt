@@ -67,7 +67,7 @@ fn put_new(
     requires most { len ≤ 68157440 }
     requires stands { (free : List ℕ) × ((s : Shape) × StandsWith draft.old.image free s node counts) }
     ensures ok { IfOk result (λ at. (free : List ℕ) (s : Shape) → StandsWith draft.old.image free s node counts → NoBlock s (name_at draft.old.image node) len
-        → (t : Shape) × (Stands draft.new.image free t × ((p : Place) × ((at ≡ loc p) × IsAllocated s t free (name_at draft.old.image node) p len payload.now)))) }
+        → (t : Shape) × (Stands draft.new.image free t × ((p : Place) × ((at ≡ loc p) × IsAllocated draft.old.image s t free (name_at draft.old.image node) p len payload.now)))) }
     ensures full { IsErrOf result SpaceFault.NoSpace → (free : List ℕ) (s : Shape) → StandsWith draft.old.image free s node counts → NoBlock s (name_at draft.old.image node) len → NoFit draft.old.image s free (name_at draft.old.image node) len }
     ensures space { OnOk result ((free : List ℕ) (s : Shape) → StandsWith draft.old.image free s node counts → NoFit draft.old.image s free (name_at draft.old.image node) len → ⊥) }
     ensures constants { OnOk result (((held : Held) → get (table_of (ns_in draft.old.image)) (name_at draft.old.image node) ≡ Some held → constants_of held.details ≡ constants_of counts)
@@ -97,7 +97,7 @@ pub(crate) fn add_record(
     requires most { len ≤ 68157440 }
     requires stands { (free : List ℕ) × ((s : Shape) × (Stands draft.old.image free s × IsNode draft.old.image free node)) }
     ensures ok { IfOk result (λ at. (free : List ℕ) (s : Shape) → Stands draft.old.image free s → IsNode draft.old.image free node
-        → (t : Shape) × (Stands draft.new.image free t × ((p : Place) × ((at ≡ loc p) × IsAllocated s t free (name_at draft.old.image node) p len payload.now)))) }
+        → (t : Shape) × (Stands draft.new.image free t × ((p : Place) × ((at ≡ loc p) × IsAllocated draft.old.image s t free (name_at draft.old.image node) p len payload.now)))) }
     ensures full { IsErrOf result SpaceFault.NoSpace → (free : List ℕ) (s : Shape) → Stands draft.old.image free s → IsNode draft.old.image free node → NoFit draft.old.image s free (name_at draft.old.image node) len }
     ensures space { OnOk result ((free : List ℕ) (s : Shape) → Stands draft.old.image free s → IsNode draft.old.image free node → NoFit draft.old.image s free (name_at draft.old.image node) len → ⊥) }
     ensures constants { OnOk result (SameConstants (ns_in draft.old.image) (ns_in draft.new.image)) }

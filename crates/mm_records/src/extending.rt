@@ -99,7 +99,7 @@ pub(crate) fn add_extent(
     requires pages { len % 4096 ≡ 0 }
     requires some { 0 < len }
     ensures ok { OnOk result ((free : List ℕ) (s : Shape) → StandsWith draft.old.image free s node counts.old
-        → (t : Shape) × (StandsWith draft.new.image free t node counts.new × ((e : Place) × ((n : ℕ) × IsExtended s t free (name_at draft.old.image node) len e n)))) }
+        → (t : Shape) × (StandsWith draft.new.image free t node counts.new × ((e : Place) × ((n : ℕ) × IsExtended draft.old.image s t free (name_at draft.old.image node) len e n)))) }
     ensures full { IsErrOf result SpaceFault.NoSpace → (free : List ℕ) (s : Shape) → StandsWith draft.old.image free s node counts.old → NoExtent draft.old.image s.heap (s.extents free) len }
     ensures space { OnOk result ((free : List ℕ) (s : Shape) → StandsWith draft.old.image free s node counts.old → NoExtent draft.old.image s.heap (s.extents free) len → ⊥) }
     ensures constants { OnOk result (constants_of counts.new ≡ constants_of counts.old) }

@@ -53,7 +53,7 @@ impl RecordStore {
         requires bucket { request ≡ Bucket → length payload.now ≤ 8192 }
         requires stands { (free : List ℕ) × ((s : Shape) × (Stands draft.old.image free s × IsNode draft.old.image free self.now.node)) }
         ensures ok { IfOk result (λ at. (free : List ℕ) (s : Shape) (r : ℕ) → Stands draft.old.image free s → IsNode draft.old.image free self.now.node → IsAsked request (length payload.now) r
-            → (t : Shape) × (Stands draft.new.image free t × ((p : Place) × ((at ≡ loc p) × IsAllocated s t free (name_at draft.old.image self.now.node) p r payload.now)))) }
+            → (t : Shape) × (Stands draft.new.image free t × ((p : Place) × ((at ≡ loc p) × IsAllocated draft.old.image s t free (name_at draft.old.image self.now.node) p r payload.now)))) }
         ensures full { IsErrOf result SpaceFault.NoSpace → (free : List ℕ) (s : Shape) (r : ℕ) → Stands draft.old.image free s → IsNode draft.old.image free self.now.node → IsAsked request (length payload.now) r
             → NoFit draft.old.image s free (name_at draft.old.image self.now.node) r }
         ensures space { OnOk result ((free : List ℕ) (s : Shape) (r : ℕ) → Stands draft.old.image free s → IsNode draft.old.image free self.now.node → IsAsked request (length payload.now) r

@@ -21,7 +21,7 @@ place-requires-clause-ofs c =
 pub returns-clause-ok : goal.returns-clause-ok
 returns-clause-ok c = λ db heap chain ends f short isnt.
     let t = c.in_ok-cut_extent.ensures.ok db heap chain ends (c.in_ok-at.ensures.stands db heap chain ends f) c.in_ok-at.ensures.rest.unused isnt in
-    of_cut c.cut_extent.«new».draft.image db heap t.0 chain ends c.args.name.now c.args.len (c.in_ok-at.at.file, c.in_ok-at.at.ofs) c.place.result c.place.ensures short t.1.0 t.1.1
+    of_cut c.args.draft.now.image c.cut_extent.«new».draft.image db heap t.0 chain ends c.args.name.now c.args.len (c.in_ok-at.at.file, c.in_ok-at.at.ofs) c.place.result c.place.ensures short c.in_ok-at.ensures.next t.1.0 t.1.1
 
 pub returns-clause-room : goal.returns-clause-room
 returns-clause-room c = lowers_both _ _ _ (3 * c.args.len) c.args.len (4 * c.args.len) c.in_ok-at.ensures.room c.in_ok-cut_extent.ensures.room (omega arith)

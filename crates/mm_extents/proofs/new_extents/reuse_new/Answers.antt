@@ -15,7 +15,7 @@ place-requires-clause-ofs c = let low = (first_low c.args.draft.now.image c.requ
 pub returns-clause-ok : goal.returns-clause-ok
 returns-clause-ok c = λ db heap chain f x isnt.
     let t = c.in_ok-reuse_extent.ensures.ok db heap chain f (first_on heap chain c.args.len (c.args.at.file, c.args.at.ofs) x) isnt in
-    of_reused c.reuse_extent.«new».draft.image db heap t.0 chain c.reuse_extent.«new».free c.args.name.now c.args.len t.1.0 (c.args.at.file, c.args.at.ofs) c.place.result c.place.ensures x t.1.1.0 t.1.1.1
+    of_reused c.args.draft.now.image c.reuse_extent.«new».draft.image db heap t.0 chain c.reuse_extent.«new».free c.args.name.now c.args.len t.1.0 (c.args.at.file, c.args.at.ofs) c.place.result c.place.ensures x t.1.1.0 t.1.1.1
 
 pub returns-clause-room : goal.returns-clause-room
 returns-clause-room c = room_kept _ _ c.in_ok-reuse_extent.ensures.kept

@@ -37,7 +37,7 @@ returns-in-Some-clause-ok c = ok_both c.put_found.result c.put_found.ensures.at 
     let p : Place = (c.in-Some.block.at.file, c.in-Some.block.at.ofs) in
     let b = c.in-Some.ensures.some free s st in
     let t = f free s st b in
-    (t.0, (t.1.0, (p, (is, alloc_found s t.0 free (name_at c.args.draft.now.image c.args.node) p c.args.len c.in-Some.block.list c.in-Some.block.before c.args.payload.now b t.1.1)))))
+    (t.0, (t.1.0, (p, (is, alloc_found c.args.draft.now.image s t.0 free (name_at c.args.draft.now.image c.args.node) p c.args.len c.in-Some.block.list c.in-Some.block.before c.args.payload.now b t.1.1)))))
 
 pub returns-in-Some-clause-full : goal.returns-in-Some-clause-full
 returns-in-Some-clause-full c = λ e. absurd (c.put_found.ensures.memory e)

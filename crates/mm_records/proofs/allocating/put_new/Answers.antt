@@ -33,7 +33,7 @@ unreachable-requires c =
     let t = c.in_ok-add_extent.ensures.ok s.0 s.1.0 s.1.1 in
     let name : name_at c.add_extent.«new».draft.image c.args.node ≡ name_at c.args.draft.now.image c.args.node = c.in_ok-add_extent.ensures.names.names c.args.node s.1.1.is_node.used in
     let le = c.extent_len-long.ensures.enough in
-    some_block s.1.0 t.0 s.0 (name_at c.args.draft.now.image c.args.node) t.1.1.0 c.args.len t.1.1.1.0 c.extent_len-long.result t.1.1.1.1 (omega (arith, le))
+    some_block c.args.draft.now.image s.1.0 t.0 s.0 (name_at c.args.draft.now.image c.args.node) t.1.1.0 c.args.len t.1.1.1.0 c.extent_len-long.result t.1.1.1.1 (omega (arith, le))
     (subst (λ (n : List ℕ). NoBlock t.0 n c.args.len) name (c.in-None.ensures.none s.0 t.0 t.1.0))
 
 pub returns-clause-ok : goal.returns-clause-ok
@@ -45,8 +45,8 @@ returns-clause-ok c = ok_both c.put_found.result c.put_found.ensures.at c.put_fo
     let u = f free t.0 t.1.0 b in
     let whole = subst (λ (n : List ℕ). (x : IsChosen t.0 n c.args.len c.in-Some.block.list c.in-Some.block.before p) × IsAdded t.0 u.0 n p c.args.len (16 + length x.rest) c.args.payload.now) name (b, u.1.1) in
     let long = c.extent_len-long.ensures.is free s st in
-    let x = subst (λ (l : ℕ). IsExtended s t.0 free (name_at c.args.draft.now.image c.args.node) l t.1.1.0 t.1.1.1.0) long t.1.1.1.1 in
-    (u.0, (u.1.0, (p, (is, alloc_new s t.0 u.0 free (name_at c.args.draft.now.image c.args.node) t.1.1.0 p c.args.len t.1.1.1.0 c.in-Some.block.list c.in-Some.block.before c.args.payload.now none x whole.0 whole.1)))))
+    let x = subst (λ (l : ℕ). IsExtended c.args.draft.now.image s t.0 free (name_at c.args.draft.now.image c.args.node) l t.1.1.0 t.1.1.1.0) long t.1.1.1.1 in
+    (u.0, (u.1.0, (p, (is, alloc_new c.args.draft.now.image s t.0 u.0 free (name_at c.args.draft.now.image c.args.node) t.1.1.0 p c.args.len t.1.1.1.0 c.in-Some.block.list c.in-Some.block.before c.args.payload.now none x whole.0 whole.1)))))
 
 pub returns-clause-space : goal.returns-clause-space
 returns-clause-space c = on_ok_weaker c.put_found.result (λ x free s st n.

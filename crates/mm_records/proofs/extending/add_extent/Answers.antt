@@ -47,7 +47,7 @@ spot_of-at-requires c =
     let st = c.requires.stands.1.1 in
     let f = frees_of c.args.draft.now.image free s c.args.node c.args.counts.now st c.free_ends-free.result (c.free_ends-free.ensures free st.free_chain.0 st.free_chain.1.node) in
     let made = c.in_ok-new_extent.ensures.ok free s.heap (s.extents free) f (λ e. st.is_node.isnt_free (sym c.name_of-name.ensures ∙ e)) in
-    made_low c.new_extent.«new».draft.image free s.heap (s.extents free) c.new_extent.«new».free c.name_of-name.result c.args.len c.in_ok-new_extent.field-0 made
+    made_low c.args.draft.now.image c.new_extent.«new».draft.image free s.heap (s.extents free) c.new_extent.«new».free c.name_of-name.result c.args.len c.in_ok-new_extent.field-0 made
 
 pub put_free_ends-requires-clause-table : goal.put_free_ends-requires-clause-table
 put_free_ends-requires-clause-table c = subst (λ (ns : List ℕ). IsTable ns) (sym c.in_ok-new_extent.ensures.ns) c.requires.stands.1.1.table

@@ -16,7 +16,7 @@ returns-then-payload-gt-MAX_PAYLOAD_LEN-clause-full c = λ e free s r st node as
 
 pub returns-clause-ok : goal.returns-clause-ok
 returns-clause-ok c = holds_of c.add_record.result c.add_record.ensures.ok (λ at f free s r st node asked.
-    subst (λ (n : ℕ). (t : Shape) × (Stands c.add_record.«new».draft.image free t × ((p : Place) × ((at ≡ loc p) × IsAllocated s t free (name_at c.args.draft.now.image c.args.self.now.node) p n c.args.payload.now))))
+    subst (λ (n : ℕ). (t : Shape) × (Stands c.add_record.«new».draft.image free t × ((p : Place) × ((at ≡ loc p) × IsAllocated c.args.draft.now.image s t free (name_at c.args.draft.now.image c.args.self.now.node) p n c.args.payload.now))))
     (asked_once c.args.request (length c.args.payload.now) c.asked_len.result r c.asked_len.ensures.is asked) (f free s st node))
 
 pub returns-clause-full : goal.returns-clause-full
