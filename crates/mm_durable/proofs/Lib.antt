@@ -17,3 +17,7 @@ pub mod Serving
 pub mod Reading
 pub mod Sealing
 pub mod Seals
+pub mod Taking
+pub mod Sealed
+pub mod Openings
+pub mod Parts

@@ -1,10 +1,9 @@
 -- What recovery makes of an image that a crash left is what the items of each database make.
-use Rattle.std.proofs.Common.{◌≡◌, ℕ, ◌+◌, ◌<◌, ◌≤◌, true, List, length, take, ◌∙◌, ap}
+use Rattle.std.proofs.Common.{◌≡◌, ℕ, ◌+◌, ◌≤◌, true, List, length, take, ◌∙◌, ap}
 use Rattle.std.specs.FinMap.{get}
 use Rattle.mm_outside.specs.Image.{Image}
 use Rattle.mm_outside.specs.Told.{Told}
 use Rattle.mm_ranges.specs.Limits.{is_file}
-use Rattle.mm_section.specs.declared.section.Section.{Section}
 use Rattle.mm_crash.specs.Overlay.{over}
 use Rattle.mm_crash.specs.Journal.{entries_of}
 use Rattle.mm_crash.specs.Story.{Story, state}

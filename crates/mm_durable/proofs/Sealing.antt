@@ -1,5 +1,5 @@
 -- What the databases gave since the last seal makes the next section.
-use Rattle.std.proofs.Common.{◌≡◌, inl, inr, ℕ, ◌+◌, ◌<◌, ◌≤◌, Bool, true, false, cond, ◌||◌, List, [], ◌∷◌, ◌++◌, length, take, Option, Some, None, refl, sym, ◌∙◌, ap, subst, arith}
+use Rattle.std.proofs.Common.{◌≡◌, ℕ, ◌+◌, Bool, true, false, cond, ◌||◌, List, [], ◌∷◌, ◌++◌, length, take, Option, Some, None, refl, sym, ◌∙◌, ap, subst, arith}
 use mathlib.Core.Bool.{true≢false}
 use Rattle.std.specs.declared.cmp.Ordering.{Ordering}
 use Rattle.std.specs.declared.cmp.Ordering.TheVariants.{Less, Equal, Greater}
@@ -11,12 +11,12 @@ use Rattle.mm_outside.proofs.Places.{one_name, same_name, different}
 use Rattle.mm_ranges.specs.declared.part.Closed.{Closed}
 use Rattle.mm_section.specs.Spells.{is_first, are_rising}
 use Rattle.mm_tie.specs.Items.{Follows}
-use Rattle.mm_items.specs.Given.{Given, sealed_part, has_content, sealed_parts, has_database, AreApart, Taken, AllFollow, with_items}
+use Rattle.mm_items.specs.Given.{sealed_part, has_content, sealed_parts, has_database, AreApart, Taken, AllFollow, with_items}
 use Rattle.mm_durable.specs.Names.{has_name}
 use Rattle.mm_durable.specs.Intake.{is_ours, first_items, AllAfter, AreRising, HasGiven, AreSeated, IsGiven, AllGave, with_given, given_of}
 use Rattle.mm_durable.specs.declared.intake.Seat.{Seat}
 
-not_same : (o : Ordering) → is_lt o ≡ true → is_eq o ≡ false
+pub not_same : (o : Ordering) → is_lt o ≡ true → is_eq o ≡ false
 not_same Less e = refl
 not_same Equal e = absurd (true≢false (sym e))
 not_same Greater e = refl

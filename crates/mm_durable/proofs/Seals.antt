@@ -1,5 +1,5 @@
 -- The section of what the databases gave comes next, and the files then read what their items give, the new ones included.
-use Rattle.std.proofs.Common.{◌≡◌, inl, inr, ℕ, ◌+◌, ◌<◌, ◌≤◌, Bool, true, false, cond, ◌||◌, List, [], ◌∷◌, ◌++◌, length, take, Option, Some, None, refl, sym, ◌∙◌, ap, subst, arith}
+use Rattle.std.proofs.Common.{◌≡◌, inl, inr, ℕ, ◌+◌, ◌<◌, ◌≤◌, Bool, true, false, ◌||◌, List, [], ◌∷◌, ◌++◌, length, take, Option, Some, None, refl, sym, ◌∙◌, ap, subst, arith}
 use mathlib.Core.Bool.{true≢false}
 use Rattle.std.specs.Prelude.{nat_le}
 use Rattle.std.specs.FinMap.{get}
@@ -30,7 +30,7 @@ use Rattle.mm_durable.proofs.Sealing.{AllOurs, take_whole, separate, follow, all
 pub ours_db : (names : List (List ℕ)) (n : List ℕ) → is_ours names n ≡ true → is_db_name n ≡ true
 ours_db names n is = (and_parts (is_db_name n) (has_name names n) is).0
 
-ours_named : (names : List (List ℕ)) (n : List ℕ) → is_ours names n ≡ true → has_name names n ≡ true
+pub ours_named : (names : List (List ℕ)) (n : List ℕ) → is_ours names n ≡ true → has_name names n ≡ true
 ours_named names n is = (and_parts (is_db_name n) (has_name names n) is).1
 
 take_all : (xs : List Section) → take (length xs) xs ≡ xs

@@ -1,5 +1,5 @@
 -- From the log's fact to that of the durable side.
-use Rattle.std.proofs.Common.{◌≡◌, ℕ, ◌+◌, ◌^◌, ◌<◌, ◌≤◌, ◌==◌, true, List, [], length, get_or, Option, Some, refl, sym, ◌∙◌, ap, subst, arith}
+use Rattle.std.proofs.Common.{◌≡◌, inl, inr, ℕ, ◌^◌, ◌<◌, ◌≤◌, ◌==◌, true, List, [], length, get_or, Option, Some, refl, sym, ◌∙◌, ap, subst, arith}
 use Rattle.std.specs.Prelude.{vec_capacity}
 use Rattle.std.proofs.lemmas.Bool.Decides.{nat_tests}
 use Rattle.std.proofs.lemmas.List.{length-map}
@@ -11,7 +11,7 @@ use Rattle.mm_prefix.specs.Prefix.{Numbers, since}
 use Rattle.mm_items.specs.Given.{Taken}
 use Rattle.mm_durable.specs.Names.{has_name}
 use Rattle.mm_durable.specs.Log.{IsSound, KeepsRun, Keeps, Leaving, numbers, sealed}
-use Rattle.mm_durable.specs.Intake.{by_name, lists, AreRising, AreSeated, HasEntry, IsIntake, SameTaken}
+use Rattle.mm_durable.specs.Intake.{by_name, lists, AreRising, AreSeated, AreAllOrNone, HasEntry, IsIntake, SameTaken}
 use Rattle.mm_durable.specs.Durable.{HasImages, IsServed, IsOrderly, LeavesOff, SameItems}
 use Rattle.mm_durable.specs.declared.log.Log.{Log}
 use Rattle.mm_durable.proofs.Marks.{idle}
@@ -56,19 +56,27 @@ taken_same i = record { lists_same = refl; rooms_same = refl; rings_same = refl;
 pub same_items : {D : Type 0} (old new : Durable D) → KeepsRun old.log new.log → new.intake ≡ old.intake → SameItems old new
 same_items old new run e = record { run = run; same_taken = subst (SameTaken old.intake) (sym e) (taken_same old.intake) }
 
+pub all_or_none_as : (old new : Intake) → new.seats.items ≡ old.seats.items → new.sorted.items ≡ old.sorted.items → AreAllOrNone old → AreAllOrNone new
+all_or_none_as old new seats sorted is = elim is [
+  | inl none ↦ inl (seats ∙ none)
+  | inr all ↦ inr (ap length seats ∙ all ∙ sym (ap length sorted))
+]
+
 intake_as : (names : List (List ℕ)) (n m : ℕ) (old new : Intake) → m ≡ n → SameTaken old new → IsIntake names n old → IsIntake names m new
 intake_as names n m old new e same is = record {
   few = is.few;
   feeds = omega (arith, is.feeds, ap length same.rings_same, length-map new.feeds.items taker_ring, length-map old.feeds.items taker_ring);
-  rooms_small = λ d lt. subst (λ (l : List ℕ). get_or l d 0 ≤ 2 ^ 32) (sym same.rooms_same) (is.rooms_small d lt);
+  some = is.some;
+  within = λ d lt. subst (λ (l : List (List Closed)). length (get_or l d []) ≤ 2 ^ 32) (sym same.lists_same) (is.within d lt);
   rising = subst AreRising (sym same.sorted) is.rising;
   same = λ n. ap (λ (l : List (List ℕ)). has_name l n) same.sorted ∙ is.same n;
   count = ap length same.sorted ∙ is.count;
   ranks = ap length same.ranks ∙ is.ranks;
   ranked = λ d lt. ranked_as names d old.ranks.items new.ranks.items old.sorted.items new.sorted.items same.ranks same.sorted (is.ranked d lt);
   seats = seats_as names n m old new e same is.seats;
+  all_or_none = all_or_none_as old new same.seats same.sorted is.all_or_none;
   room = λ h. room_as (is.room (seats_full (length old.seats.items) (length new.seats.items) (length old.sorted.items) (length new.sorted.items) (ap length same.seats) (ap length same.sorted) h));
-  entered = λ k lo hi. subst (λ (l : List (List Closed)). HasEntry names (by_name names l) k) (sym same.lists_same) (is.entered k lo (omega (arith, hi, e)));
+  entered = λ k lo hi. subst (λ (l : List (List Closed)). HasEntry l k) (sym same.lists_same) (is.entered k lo (omega (arith, hi, e)));
 }
   where
     ranked_as : (names : List (List ℕ)) (d : ℕ) (r s : List ℕ) (a b : List (List ℕ)) → s ≡ r → b ≡ a → (get_or r d 0 < length names) × (get_or a (get_or r d 0) [] ≡ get_or names d []) → (get_or s d 0 < length names) × (get_or b (get_or s d 0) [] ≡ get_or names d [])
@@ -91,7 +99,7 @@ orderly old new same is sound = record {
 }
 
 pub run_same : (log : Log) → KeepsRun log log
-run_same log = record { names = refl; last = refl; sections = refl; dropped = refl }
+run_same log = record { names = refl; last = refl; sections = refl; dropped = refl; space = omega arith }
 
 -- no call is made of the disk
 pub idles : (log : Log) (a b : Intake) → IsSound log → SameTaken a b → (before : Option Told) → (t u : Told) (story : Story) (history : ℕ → Numbers) → before ≡ Some u → IsServed t u story history log (by_name log.names.items (lists a))

@@ -1,14 +1,14 @@
 -- The section of what at most four databases gave is spelled.
-use Rattle.std.proofs.Common.{◌≡◌, inl, inr, ℕ, ◌+◌, ◌-◌, ◌*◌, ◌^◌, ◌<◌, ◌≤◌, Bool, true, false, cond, ◌&&◌, List, [], ◌∷◌, ◌++◌, length, map, sum_by, refl, sym, ◌∙◌, ap, subst, arith}
-use Rattle.std.specs.Prelude.{nat_lt, nat_le, IsTrue}
+use Rattle.std.proofs.Common.{◌≡◌, ℕ, ◌+◌, ◌-◌, ◌*◌, ◌^◌, ◌<◌, ◌≤◌, Bool, true, false, cond, ◌&&◌, List, [], ◌∷◌, ◌++◌, length, map, sum_by, refl, arith}
+use Rattle.std.specs.Prelude.{nat_lt, nat_le}
 use Rattle.std.specs.List.{list_all}
-use Rattle.std.proofs.lemmas.Bool.{and_from, and_parts, cases_Bool}
+use Rattle.std.proofs.lemmas.Bool.{and_from, and_parts}
 use Rattle.std.proofs.lemmas.Bool.Decides.{nat_tests}
 use Rattle.std.proofs.lemmas.List.{length-append}
 use Rattle.std.proofs.lemmas.List.Sums.{sum_by-append}
 use Rattle.mm_base.proofs.Numbers.{length-u32_bytes}
 use Rattle.mm_base.specs.Fields.{u32_bytes}
-use Rattle.mm_frames.specs.EntryHead.{entry_head_bytes, made_entry_bytes}
+use Rattle.mm_frames.specs.EntryHead.{entry_head_bytes}
 use Rattle.mm_frames.proofs.JournalFrames.{length-entry_head_bytes, length-made_entry_bytes}
 use Rattle.mm_ranges.specs.Places.{weight_of}
 use Rattle.mm_ranges.specs.Overlay.{ranges_of}
@@ -16,7 +16,7 @@ use Rattle.mm_ranges.specs.declared.part.Made.{Made}
 use Rattle.mm_ranges.specs.declared.part.Piece.{Piece}
 use Rattle.mm_ranges.specs.declared.part.Part.{Part}
 use Rattle.mm_section.specs.declared.section.Section.{Section}
-use Rattle.mm_section.specs.Spells.{Entry, entry_bytes, entries_bytes, make_of, put_of, part_entries, parts_entries, parts_bytes, sealed_len, is_db_name, is_letter, are_rising, IsPart}
+use Rattle.mm_section.specs.Spells.{Entry, entry_bytes, entries_bytes, make_of, put_of, part_entries, parts_entries, parts_bytes, sealed_len, is_db_name, is_letter, are_rising}
 use Rattle.mm_section.specs.Reading.{is_part}
 use Rattle.mm_section.proofs.Limits.{part_only}
 use Rattle.mm_views.specs.State.{weight_in}

@@ -1,5 +1,5 @@
 -- What the log is at all times, and the fact that its calls keep.
-use Rattle.std.specs.Prelude.{List, [], ◌∷◌, ◌++◌, ◌≡◌, ℕ, ◌+◌, ◌-◌, ◌<◌, ◌≤◌, ◌^◌, Bool, ◌&&◌, nat_lt, ◌==◌, length, drop, get_or, Option, Some, ◌⊎◌}
+use Rattle.std.specs.Prelude.{List, [], ◌∷◌, ◌++◌, ◌≡◌, ℕ, ◌+◌, ◌-◌, ◌<◌, ◌≤◌, ◌^◌, Bool, ◌&&◌, nat_lt, ◌==◌, length, drop, get_or, Option, Some, ◌⊎◌, vec_capacity}
 use Rattle.mm_outside.specs.Told.{Told}
 use Rattle.mm_section.specs.declared.section.Section.{Section}
 use Rattle.mm_outside.specs.Leaves.{Leaves}
@@ -63,6 +63,14 @@ pub record KeepsRun (old new : Log) : Type 0 where
   pub last : new.last ≡ old.last
   pub sections : new.sections.items ≡ old.sections.items
   pub dropped : new.dropped ≡ old.dropped
+  pub space : vec_capacity old.sections ≤ vec_capacity new.sections
+
+-- how far the sections have come is as it was
+pub record KeepsCounts (old new : Log) : Type 0 where
+  pub receipts_kept : new.receipts.items ≡ old.receipts.items
+  pub flushed_kept : new.flushed.items ≡ old.flushed.items
+  pub floor_kept : new.floor ≡ old.floor
+  pub mark_kept : new.mark ≡ old.mark
 
 -- one section more is sealed
 pub record HasMore (old : Log) (section : Section) (new : Log) : Type 0 where

@@ -1,17 +1,26 @@
 //! The durable side over the feeds of its databases.
 
-ghost use Rattle.std.specs.Prelude.{◌≡◌, ◌+◌, ◌<◌, ◌≤◌, length, true, false, IfOk, IfSome, IfNone, OnOk, OnErr};
+ghost use Rattle.std.specs.Prelude.{◌≡◌, ◌+◌, ◌<◌, ◌≤◌, ◌^◌, ◌⊎◌, ℕ, [], length, map, get_or, slice_set, true, false, Some, IfOk, IfErr, IfSome, IfNone, OnOk, OnErr};
 ghost use Rattle.mm_outside.specs.declared.disk.Device.TheVariants.{Fault};
 ghost use Rattle.mm_outside.specs.Fault.{HasCause};
-ghost use Rattle.mm_durable.specs.Log.{IsFloor, HasReceipt, HasNoReceipt, synced, has_pending, is_marked};
-ghost use Rattle.mm_durable.specs.Intake.{IsOwn, HasTaken};
-ghost use Rattle.mm_durable.specs.Durable.{IsOrderly, Serves, LeavesOff, SameItems};
+ghost use Rattle.mm_outside.specs.Told.{Told};
+ghost use Rattle.mm_tie.specs.Ends.{taken};
+ghost use Rattle.mm_crash.specs.Recovered.{Files};
+ghost use Rattle.mm_crash.specs.Rest.{IsRecovered, new_story};
+ghost use Rattle.mm_journal.proofs.Real.{the_format, the_names};
+ghost use Rattle.mm_prefix.specs.Prefix.{at_first};
+ghost use Rattle.mm_durable.specs.Names.{AreDatabases};
+ghost use Rattle.mm_durable.specs.Log.{IsSound, IsKept, IsBegun, IsFloor, KeepsRun, KeepsCounts, HasMore, HasReceipt, HasNoReceipt, sealed, synced, has_pending, is_marked};
+ghost use Rattle.mm_durable.specs.Intake.{IsIntake, IsOwn, HasTaken, HasEntry, KeepsFeeds, GivesNext, lists, rings};
+ghost use Rattle.mm_durable.specs.Durable.{IsOrderly, IsServed, ReadItems, Serves, StillServes, ServesSealed, LeavesOff, SameItems, AllClosed, items_of, is_ready, has_closed, next_section};
 
 use crate::intake::Intake;
 use crate::log::{Log, Receipt};
-use mm_base::DbNo;
+use mm_base::{DbNo, Name, NoMemory};
 use mm_outside::{Device, Disk};
-use mm_tie::Origin;
+use mm_section::{PartList, Section};
+use mm_tie::{Feed, Origin};
+use std::alloc::Global;
 
 /// The durable side of a run: the disk, the log of its sealed sections, and the feeds of its databases. After a device call that answered
 /// an error it is ended, and no device call may follow.
@@ -23,7 +32,89 @@ pub struct Durable<D> {
     ended: bool,
 }
 
+// The log and the feeds of a run that begins.
+fn begin(
+    alloc: Global,
+    names: Vec<Name>,
+    feeds: Vec<Feed>,
+    limit: u64,
+    last: u64,
+) -> Result<(Log, Intake), NoMemory>
+    requires low { 8192 < limit }
+    requires high { limit ≤ 2 ^ 63 }
+    requires last { last ≤ 2 ^ 63 }
+    requires some { 0 < length names.items }
+    requires few { length names.items ≤ 4 }
+    requires names { AreDatabases names.items }
+    requires feeds { length feeds.items ≡ length names.items }
+    requires first { (d : ℕ) → d < length names.items → length (get_or (map taken feeds.items) d []) ≡ 1 }
+    ensures sound { IfOk result (λ both. IsSound both.0) }
+    ensures begun { IfOk result (λ both. IsBegun names.items last both.0) }
+    ensures kept { IfOk result (λ both. (files : Files) (u : Told) → IsRecovered the_format the_names files last u → IsKept u (new_story files last) at_first both.0 u) }
+    ensures intake { IfOk result (λ both. IsIntake names.items 0 both.1) }
+    ensures feeds { IfOk result (λ both. both.1.feeds.items ≡ feeds.items) }
+{
+    let intake = Intake::start(alloc, &names, feeds)?;
+    let log = Log::start(alloc, names, limit, last)?;
+    Ok((log, intake))
+}
+
 impl<D: Disk> Durable<D> {
+    /// A run over a disk that was recovered: its journal has no file, its lsn file has this number, nothing is pending, and its files
+    /// read the databases' items 0. Files of the journal of `limit` bytes or more are followed by new ones. For want of memory the disk
+    /// comes back.
+    pub fn start(
+        alloc: Global,
+        disk: D,
+        names: Vec<Name>,
+        feeds: Vec<Feed>,
+        limit: u64,
+        last: u64,
+    ) -> Result<Durable<D>, (NoMemory, D)>
+        requires low { 8192 < limit }
+        requires high { limit ≤ 2 ^ 63 }
+        requires last { last ≤ 2 ^ 63 }
+        requires some { 0 < length names.items }
+        requires few { length names.items ≤ 4 }
+        requires names { AreDatabases names.items }
+        requires feeds { length feeds.items ≡ length names.items }
+        requires first { (d : ℕ) → d < length names.items → length (get_or (map taken feeds.items) d []) ≡ 1 }
+        ensures orderly { IfOk result (λ durable. IsOrderly durable) }
+        ensures begun { IfOk result (λ durable. IsBegun names.items last durable.log) }
+        ensures feeds { IfOk result (λ durable. durable.intake.feeds.items ≡ feeds.items) }
+        ensures kept { IfOk result (λ durable. (files : Files) (u : Told) → D.told disk ≡ Some u → IsRecovered the_format the_names files last u → ReadItems files names.items (items_of durable) → IsServed u u (new_story files last) at_first durable.log (items_of durable)) }
+        ensures going { IfOk result (λ durable. durable.ended ≡ false) }
+        ensures disk { IfOk result (λ durable. durable.disk ≡ disk) }
+        ensures back { IfErr result (λ none. none.1 ≡ disk) }
+    {
+        match begin(alloc, names, feeds, limit, last) {
+            Ok((log, intake)) => Ok(Durable {
+                disk,
+                log,
+                intake,
+                ended: false,
+            }),
+            Err(none) => Err((none, disk)),
+        }
+    }
+
+    /// Takes what `take_closed` and `seal` need. For want of memory all stays as it was.
+    pub fn ready(&mut self) -> Result<(), NoMemory>
+        requires orderly { IsOrderly self.old }
+        ensures ready { OnOk result (is_ready self.new ≡ true) }
+        ensures still { is_ready self.old ≡ true → is_ready self.new ≡ true }
+        ensures orderly { IsOrderly self.new }
+        ensures run { KeepsRun self.old.log self.new.log }
+        ensures counts { KeepsCounts self.old.log self.new.log }
+        ensures feeds { KeepsFeeds self.old.intake self.new.intake }
+        ensures kept { StillServes self.old self.new }
+        ensures ended { self.new.ended ≡ self.old.ended }
+        ensures disk { self.new.disk ≡ self.old.disk }
+    {
+        self.log.ready()?;
+        self.intake.ready()
+    }
+
     /// With the database in hand, what it gave is what its feed took. Nothing changes, and it takes no memory.
     pub fn agree<O: Origin>(&mut self, db: DbNo, from: &mut O)
         requires orderly { IsOrderly self.old }
@@ -37,6 +128,55 @@ impl<D: Disk> Durable<D> {
         ensures origin { from.new ≡ from.old }
     {
         self.intake.agree(db.0 as usize, from);
+    }
+
+    /// Agrees with a database, closes its opened group, and keeps the item that it gives for the next section. It takes no memory. That all
+    /// stays in order is said of a database that gives at most 2^32 items.
+    pub fn take_closed<O: Origin>(&mut self, db: DbNo, from: &mut O)
+        requires orderly { IsOrderly self.old }
+        requires ready { is_ready self.old ≡ true }
+        requires db { db.0 < length self.old.log.names.items }
+        requires once { has_closed self.old db.0 ≡ false }
+        requires own { IsOwn self.old.intake db.0 (O.own_ring from.old) }
+        requires may_close { O.is_ready from.old ≡ true }
+        requires room { length (O.given from.old) < O.most from.old }
+        ensures agree { HasTaken self.old.intake db.0 (O.given from.old) }
+        ensures gives { GivesNext (O.given from.old) (O.given from.new) }
+        ensures taken { lists self.new.intake ≡ slice_set (lists self.old.intake) db.0 (O.given from.new) }
+        ensures rings { rings self.new.intake ≡ rings self.old.intake }
+        ensures closes { O.closes from.old from.new }
+        ensures most { O.most from.new ≡ O.most from.old }
+        ensures ring { O.own_ring from.new ≡ O.own_ring from.old }
+        ensures orderly { O.most from.old ≤ 2 ^ 32 → IsOrderly self.new }
+        ensures ready { is_ready self.new ≡ true }
+        ensures kept { StillServes self.old self.new }
+        ensures log { self.new.log ≡ self.old.log }
+        ensures ended { self.new.ended ≡ self.old.ended }
+        ensures disk { self.new.disk ≡ self.old.disk }
+    {
+        self.intake.take_closed(db.0 as usize, from);
+    }
+
+    /// Makes one pending section of what the databases gave, in rising order of their names, and answers its number. A database that made
+    /// no file and changed no range has no part in it. It takes no memory.
+    pub fn seal(&mut self) -> u64
+        requires orderly { IsOrderly self.old }
+        requires ready { is_ready self.old ≡ true }
+        requires closed { AllClosed self.old }
+        requires entry { HasEntry (lists self.old.intake) (sealed self.old.log + 1) ⊎ (sealed self.old.log ≡ 0) }
+        ensures number { result ≡ self.old.log.last + sealed self.old.log + 1 }
+        ensures orderly { IsOrderly self.new }
+        ensures more { HasMore self.old.log (next_section self.old) self.new.log }
+        ensures counts { KeepsCounts self.old.log self.new.log }
+        ensures feeds { KeepsFeeds self.old.intake self.new.intake }
+        ensures kept { ServesSealed self.old (next_section self.old) self.new }
+        ensures ended { self.new.ended ≡ self.old.ended }
+        ensures disk { self.new.disk ≡ self.old.disk }
+    {
+        let number = self.log.next_number();
+        let parts = PartList::new(self.intake.seal());
+        self.log.add(Section { number, parts });
+        number
     }
 
     /// Writes the oldest pending section behind the journal's last and syncs it. It answers false exactly where none is pending.

@@ -17,8 +17,8 @@ use mm_recover::lay_part;
 use mm_section::Section;
 use std::alloc::Global;
 
-// Whether these are one name.
-fn is_same(one: &[u8], other: &[u8]) -> bool
+/// Whether these are one name.
+pub fn is_same(one: &[u8], other: &[u8]) -> bool
     ensures { result ≡ eq_by_cmp name_cmp one.now other.now }
 {
     one.cmp(other).is_eq()

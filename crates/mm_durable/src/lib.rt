@@ -11,6 +11,8 @@ mod flushing;
 mod intake;
 mod laws;
 mod log;
+mod opening;
+mod seats;
 mod spelling;
 mod syncing;
 

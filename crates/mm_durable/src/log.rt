@@ -52,7 +52,7 @@ impl Log {
     ghost use Rattle.mm_journal.proofs.Real.{the_format, the_names};
     ghost use Rattle.mm_prefix.specs.Prefix.{Numbers, at_first};
     ghost use Rattle.mm_durable.specs.Names.{AreDatabases, ArePartsOf};
-    ghost use Rattle.mm_durable.specs.Log.{IsFloor, IsSound, IsKept, IsBegun, KeepsRun, HasMore, Keeps, Leaving, HasReceipt, HasNoReceipt, sealed, synced, has_pending, is_marked};
+    ghost use Rattle.mm_durable.specs.Log.{IsFloor, IsSound, IsKept, IsBegun, KeepsRun, KeepsCounts, HasMore, Keeps, Leaving, HasReceipt, HasNoReceipt, sealed, synced, has_pending, is_marked};
 
     /// A run that has no section yet, over a disk that was recovered, with this number in its lsn file.
     pub fn start(alloc: Global, names: Vec<Name>, limit: u64, last: u64) -> Result<Log, NoMemory>
@@ -86,6 +86,7 @@ impl Log {
         ensures sound { IsSound self.new }
         ensures room { OnOk result (length self.new.sections.items < vec_capacity self.new.sections) }
         ensures run { KeepsRun self.old self.new }
+        ensures counts { KeepsCounts self.old self.new }
         ensures kept { (t u : Told) (story : Story) (history : ℕ → Numbers) → IsKept t story history self.old u → IsKept t story history self.new u }
     {
         self.sections.reserve(1)?;
@@ -101,9 +102,18 @@ impl Log {
         requires few { sealed self.old + 1 < 2 ^ 32 }
         ensures sound { IsSound self.new }
         ensures more { HasMore self.old section self.new }
+        ensures counts { KeepsCounts self.old self.new }
         ensures kept { (t u : Told) (story : Story) (history : ℕ → Numbers) → IsKept t story history self.old u → IsNext the_format the_names story section → IsKept t (with_section story section) history self.new u }
     {
         self.sections.push_reserved(section);
+    }
+
+    /// The number of the next section that is sealed.
+    pub fn next_number(&self) -> u64
+        requires { IsSound self.now }
+        ensures { result ≡ self.now.last + sealed self.now + 1 }
+    {
+        self.last + self.sealed_count() as u64 + 1
     }
 
     // How many sections are sealed.

@@ -1,4 +1,4 @@
-use Rattle.std.proofs.Common.{◌≡◌, refl, sym, length, arith, rules}
+use Rattle.std.proofs.Common.{◌≡◌, refl, length, arith, rules}
 use Rattle.std.specs.Vec.{vec_len}
 use Rattle.mm_tie.specs.Ends.{taken, taker_ring, taker_room}
 use Rattle.mm_durable.proofs.Feeds.{own_within, shown_at, list_has, still_shows}
