@@ -1,0 +1,17 @@
+pub mod RecordLaws
+pub mod RecordsBack
+pub mod ListLaws
+pub mod BlockLaws
+pub mod ListsBack
+pub mod BlocksBack
+pub mod PhaseBack
+pub mod ExtentLaws
+pub mod ListTests
+pub mod FileQuestionLaws
+pub mod ExtentsBack
+pub mod AreaLaws
+pub mod Tiled
+pub mod Lookups
+pub mod Placed
+pub mod NodeLaws
+pub mod CountLaws

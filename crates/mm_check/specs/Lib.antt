@@ -1,0 +1,12 @@
+pub mod RecordChain
+pub mod ExtentChain
+pub mod Areas
+pub mod ListChain
+pub mod Blocks
+pub mod Phases
+pub mod FileQuestions
+pub mod NodeQuestions
+pub mod BlockQuestions
+pub mod CountQuestions
+pub mod Findings
+pub mod FoundShape
