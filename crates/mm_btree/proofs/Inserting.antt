@@ -20,7 +20,7 @@ pub less_least : (m : Buckets) (up : DiskLoc) (h : ℕ) (s : Sub) → Stands m u
 less_least m up zero s t = (t.0, t.1, record { bucket = t.2.bucket; pairs = t.2.pairs; places = t.2.places; some = omega arith }, t.3)
 less_least m up (suc h) s t = t
 
-moves_same : (m : Buckets) (xs : List DiskLoc) → Moves m m xs xs
+pub moves_same : (m : Buckets) (xs : List DiskLoc) → Moves m m xs xs
 moves_same m xs = record { others = λ q k l. refl; fresh = λ q k l. absurd cc; gone = λ q k l. absurd cc }
 
 place_ins : (lt : Item → Item → Bool) (ps : List Item) (x : Item) (i : ℕ) → IsPlace lt ps x i → insert ps i x ≡ ins lt x ps

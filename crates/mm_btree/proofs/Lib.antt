@@ -18,3 +18,5 @@ pub mod Parts
 pub mod InsertCalls
 pub mod RootCalls
 pub mod Searched
+pub mod Listing
+pub mod Ranged

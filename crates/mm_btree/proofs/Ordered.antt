@@ -19,7 +19,7 @@ use Rattle.mm_btree.specs.Changes.{IsPlace}
 use Rattle.mm_btree.specs.Order.{item_compare, item_lt, IsLacking}
 use Rattle.mm_btree.proofs.ListLaws.{all-right, sorted-right}
 
-item_total : (spec : Elements) → IsTotalOrder (item_compare spec)
+pub item_total : (spec : Elements) → IsTotalOrder (item_compare spec)
 item_total spec = on_total (λ (p : Item). (document_in p.key, p.rec)) (ranked_total spec)
 
 less_is : (o : Ordering) → is_lt o ≡ true → o ≡ Less

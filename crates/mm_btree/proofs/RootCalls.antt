@@ -1,13 +1,15 @@
 -- What is owed where a new root is put over two buckets, and what is left.
-use Rattle.std.proofs.Common.{◌≡◌, ℕ, ◌+◌, ◌≤◌, List, [], ◌∷◌, insert, Option, Some, IsSome, true, cond, inr, refl, sym, ap, ◌∙◌, subst, arith}
+use Rattle.std.proofs.Common.{◌≡◌, ℕ, ◌+◌, ◌≤◌, List, [], ◌∷◌, insert, Option, Some, None, IsSome, Bool, true, false, ◌||◌, cond, inr, refl, sym, ap, ◌∙◌, subst, arith}
+use Rattle.std.proofs.lemmas.Bool.{or_parts}
 use Rattle.mm_base.specs.Places.{null}
 use Rattle.mm_base.specs.declared.place.DiskLoc.{DiskLoc}
 use Rattle.mm_bucket.specs.Pairs.{Pair, Contents, size}
 use Rattle.mm_bucket.specs.Rules.{children, AreAlike}
-use Rattle.mm_btree.specs.Nodes.{Item, Node, Buckets, node_of, put, with_parent}
+use Rattle.mm_btree.specs.Nodes.{Item, Node, Buckets, place_eq, node_of, put, with_parent}
 use Rattle.mm_btree.specs.Lists.{has}
-use Rattle.mm_btree.specs.Changes.{Up, adopted, AreThere, rooted_map}
-use Rattle.mm_btree.proofs.Edits.{same_node, kids_all}
+use Rattle.mm_btree.specs.Changes.{Up, adopted, AreThere, rooted_map, IsMade}
+use Rattle.mm_btree.proofs.Places.{place_eq-true, place_eq-is}
+use Rattle.mm_btree.proofs.Edits.{same_node, kids_none, kids_all}
 use Rattle.mm_btree.proofs.Steps.{put_there}
 
 pub root_ready : (m n : Buckets) (root r : DiskLoc) (u : Up) (b : Node) → b ≡ record { parent = null; pairs = u.mid ∷ []; kids = root ∷ u.right ∷ [] } → AreThere m (root ∷ u.right ∷ [])
@@ -46,3 +48,27 @@ pub over_fits : (a b : Contents) (r : DiskLoc) (n : ℕ) → a ≡ record { pare
 over_fits a b r n is next short =
     let none : b.pairs ≡ [] = ap (λ (z : Contents). z.pairs) next ∙ ap (λ (z : Contents). z.pairs) is in
     subst (λ (ps : List Pair). size ps + (18 + n) ≤ 8152) (sym none) (omega (arith, short))
+
+-- ---- a tree without pairs
+
+pub made : (m n : Buckets) (at : DiskLoc) (b : Contents) → b ≡ record { parent = null; pairs = []; next = null } → m at ≡ None → ((q : DiskLoc) → n q ≡ put m at (Some (node_of b)) q) → IsMade m n at
+made m n at b is free same = record {
+  tree = λ lt. record {
+    here = refl;
+    stands = ([], [], record { bucket = same at ∙ rw (place_eq-is at at refl) (ap (λ (c : Node). Some c) node); pairs = refl; places = refl; some = omega arith }, refl);
+    apart = (refl, tt);
+    order = tt;
+  };
+  moved = record {
+    others = λ q o w. same q ∙ rw (or_parts (place_eq q at) false w).0 refl;
+    fresh = λ q o w. subst (λ (z : DiskLoc). m z ≡ None) (sym (place_eq-true q at (one (place_eq q at) w))) free;
+    gone = λ q o w. absurd cc;
+  };
+}
+  where
+    node : node_of b ≡ record { parent = null; pairs = []; kids = [] }
+    node = ap node_of is ∙ same_node (node_of (record { parent = null; pairs = []; next = null })) (record { parent = null; pairs = []; kids = [] }) refl refl (kids_none (record { parent = null; pairs = []; next = null }) refl)
+
+    one : (t : Bool) → (t || false) ≡ true → t ≡ true
+    one true e = refl
+    one false e = e

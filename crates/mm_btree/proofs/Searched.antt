@@ -34,7 +34,7 @@ key_from Less r e = inl refl
 key_from Equal r e = inr refl
 key_from Greater r e = absurd cc
 
-key_of_lesser : (spec : Elements) (p q : Item) → item_lt spec p q ≡ true → (key_compare spec (document_in p.key) (document_in q.key) ≡ Less) ⊎ (key_compare spec (document_in p.key) (document_in q.key) ≡ Equal)
+pub key_of_lesser : (spec : Elements) (p q : Item) → item_lt spec p q ≡ true → (key_compare spec (document_in p.key) (document_in q.key) ≡ Less) ⊎ (key_compare spec (document_in p.key) (document_in q.key) ≡ Equal)
 key_of_lesser spec p q e = key_from (key_compare spec (document_in p.key) (document_in q.key)) (place_compare p.rec q.rec) e
 
 -- what stands before a key that is less is less
@@ -118,7 +118,7 @@ pair_below : (spec key : Elements) (p : Item) (xs ys : List Item) → Sorted (it
 pair_below spec key p [] ys s b = tt
 pair_below spec key p (x ∷ xs) ys s b = (below_before spec key x p (all-right (λ y. item_lt spec x y ≡ true) xs (p ∷ ys) s.0).0 b, pair_below spec key p xs ys s.1 b)
 
-front_below : (spec key : Elements) (ls : List (List Item)) (ps rest : List Item) → length ls ≡ length ps → Sorted (item_lt spec) (front ls ps ++ rest) → AllByRecursion (IsBelow spec key) ps → AllByRecursion (IsBelow spec key) (front ls ps)
+pub front_below : (spec key : Elements) (ls : List (List Item)) (ps rest : List Item) → length ls ≡ length ps → Sorted (item_lt spec) (front ls ps ++ rest) → AllByRecursion (IsBelow spec key) ps → AllByRecursion (IsBelow spec key) (front ls ps)
 front_below spec key [] [] rest e s h = tt
 front_below spec key [] (p ∷ ps) rest e s h = absurd (omega (arith, e))
 front_below spec key (l ∷ ls) [] rest e s h = absurd (omega (arith, e))
@@ -129,7 +129,7 @@ front_below spec key (l ∷ ls) (p ∷ ps) rest e s h =
 
 -- ---- the search in a bucket
 
-all_at : (A : Item → Type 0) (ps : List Pair) (j : ℕ) → AllByRecursion A (map item_of ps) → j < length ps → A (item_of (pair_at ps j))
+pub all_at : (A : Item → Type 0) (ps : List Pair) (j : ℕ) → AllByRecursion A (map item_of ps) → j < length ps → A (item_of (pair_at ps j))
 all_at A [] j h lt = absurd (omega (arith, lt))
 all_at A (p ∷ ps) zero h lt = h.0
 all_at A (p ∷ ps) (suc j) h lt = all_at A ps j h.1 (omega (arith, lt))
@@ -145,12 +145,12 @@ less_before spec key (p ∷ ps) s (suc i) (suc j) le lt b = less_before spec key
 pub not_less_from : (spec key : Elements) (ps : List Pair) → Sorted (item_lt spec) (map item_of ps) → (i j : ℕ) → i ≤ j → j < length ps → IsNotBelow spec key (item_of (pair_at ps i)) → IsNotBelow spec key (item_of (pair_at ps j))
 not_less_from spec key ps s i j le lt up b = up (less_before spec key ps s i j le lt b)
 
-taken : (A : Item → Type 0) (ps : List Pair) (i : ℕ) → ((j : ℕ) → j < i → A (item_of (pair_at ps j))) → i ≤ length ps → AllByRecursion A (take i (map item_of ps))
+pub taken : (A : Item → Type 0) (ps : List Pair) (i : ℕ) → ((j : ℕ) → j < i → A (item_of (pair_at ps j))) → i ≤ length ps → AllByRecursion A (take i (map item_of ps))
 taken A ps zero f le = tt
 taken A [] (suc i) f le = absurd (omega (arith, le))
 taken A (p ∷ ps) (suc i) f le = (f 0 (omega arith), taken A ps i (λ j lt. f (suc j) (omega (arith, lt))) (omega (arith, le)))
 
-left_over : (A : Item → Type 0) (ps : List Pair) (i : ℕ) → ((j : ℕ) → i ≤ j → j < length ps → A (item_of (pair_at ps j))) → AllByRecursion A (drop i (map item_of ps))
+pub left_over : (A : Item → Type 0) (ps : List Pair) (i : ℕ) → ((j : ℕ) → i ≤ j → j < length ps → A (item_of (pair_at ps j))) → AllByRecursion A (drop i (map item_of ps))
 left_over A [] zero f = tt
 left_over A [] (suc i) f = tt
 left_over A (p ∷ ps) zero f = (f 0 (omega arith) (omega arith), left_over A ps zero (λ j le lt. f (suc j) (omega arith) (omega (arith, lt))))

@@ -5,7 +5,7 @@ use Rattle.mm_base.specs.Places.{null}
 use Rattle.mm_base.specs.declared.place.DiskLoc.{DiskLoc}
 use Rattle.mm_btree.specs.Nodes.{Item, Node, Buckets, put, with_parent}
 use Rattle.mm_btree.specs.Lists.{has, Distinct, ins, Sorted, BeginsAbove}
-use Rattle.mm_btree.specs.Trees.{Sub, Stands, Moves, Became}
+use Rattle.mm_btree.specs.Trees.{Sub, Stands, Moves, Became, sub}
 
 -- the pair that goes up where a bucket is parted, and the place of the right part
 pub record Up : Type 0 where
@@ -129,3 +129,8 @@ roots_joined left right (Some new) = left ∷ right ∷ []
 abbrev pub between_joined : Option Item → List Item
 between_joined None = []
 between_joined (Some new) = new ∷ []
+
+-- a tree without pairs, of one bucket, at a place that was free
+pub record IsMade (m n : Buckets) (root : DiskLoc) : Type 0 where
+  pub tree : (lt : Item → Item → Bool) → IsTree lt n root 0 (sub root [] [])
+  pub moved : Moves m n [] (root ∷ [])

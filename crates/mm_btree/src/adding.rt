@@ -48,6 +48,7 @@ fn insert_below<S: NodeStore>(
     requires key { IsKey key.now }
     requires stands { (up : DiskLoc) × (s : Sub) × StandsAt (item_lt spec.now) (S.bucket_at store.old) up height s at × IsLacking spec.now (record { key = key.now; rec = rec }) s.pairs }
     ensures ok { IfOk result (λ r. (up : DiskLoc) → IsInserted (item_lt spec.now) (S.bucket_at store.old) (S.bucket_at store.new) at height (record { key = key.now; rec = rec }) up r) }
+    ensures place { OnOk result (at ≡ null → ⊥) }
     ensures full { IsErrOf result TreeFault.NoSpace → S.is_full store.new }
     ensures other { IsErrOf result TreeFault.Duplicate → ⊥ }
 {
@@ -111,7 +112,6 @@ pub fn insert_pair<S: NodeStore>(
     rec: DiskLoc,
 ) -> Result<Option<DiskLoc>, TreeFault>
     requires key { IsKey key.now }
-    requires root { root ≡ null → ⊥ }
     requires tree { (s : Sub) × IsTree (item_lt spec.now) (S.bucket_at store.old) root height s × IsLacking spec.now (record { key = key.now; rec = rec }) s.pairs }
     ensures ok { IfOk result (λ r. (s : Sub) → IsTree (item_lt spec.now) (S.bucket_at store.old) root height s → IsLacking spec.now (record { key = key.now; rec = rec }) s.pairs
         → (t : Sub) × IsChanged (item_lt spec.now) (S.bucket_at store.old) (S.bucket_at store.new) (root_after root r) (height_after height r) s

@@ -12,12 +12,15 @@
 //!
 //! The calls work on any `NodeStore`, a map from places to buckets that can be read, written, and given more places. `find` gives the
 //! record of the first pair whose key is equal, and reads one path. `insert` puts a pair in its place, parting buckets up to a new root.
+//! `range` gives the records of the pairs between two bounds in their order, and `walk` those of all. `make` makes a tree without pairs.
 #![tactic(auto)]
 
 mod adding;
 mod fault;
 mod laws;
+mod making;
 mod raised;
+mod ranges;
 mod search;
 mod settle;
 mod store;
@@ -28,6 +31,8 @@ pub use laws::{
     children_go_along, high_trees_are_large, neighbours_changed, order_is_kept, parted_is_split,
     rejoined, rooted, settled, stands_elsewhere, thinned_then_joined,
 };
+pub use making::make;
+pub use ranges::{range, walk};
 pub use search::find;
 pub use store::NodeStore;
 pub use unique::insert;

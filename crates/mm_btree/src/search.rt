@@ -19,7 +19,7 @@ use mm_keys::{KeySpec, key_cmp_in_place};
 use std::cmp::Ordering;
 
 /// The key of a pair beside a key.
-fn compare_key(bucket: &Bucket, place: usize, key: &DocRef<'_>, spec: &KeySpec) -> Ordering
+pub fn compare_key(bucket: &Bucket, place: usize, key: &DocRef<'_>, spec: &KeySpec) -> Ordering
     requires { place < length bucket.now.pairs }
     ensures { result ≡ key_compare spec.now (document_in (pair_at bucket.now.pairs place).key) key.now }
 {
@@ -28,7 +28,7 @@ fn compare_key(bucket: &Bucket, place: usize, key: &DocRef<'_>, spec: &KeySpec) 
 }
 
 /// Where the first pair stands whose key isn't less than this one, by halves.
-fn first_not_less(bucket: &Bucket, key: &DocRef<'_>, spec: &KeySpec) -> usize
+pub fn first_not_less(bucket: &Bucket, key: &DocRef<'_>, spec: &KeySpec) -> usize
     requires { Sorted (item_lt spec.now) (map item_of bucket.now.pairs) }
     ensures is { IsKeyPlace spec.now key.now (map item_of bucket.now.pairs) result }
     ensures inside { result ≤ length bucket.now.pairs }

@@ -10,7 +10,8 @@ use crate::fault::TreeFault;
 use mm_base::{DiskLoc, NoMemory};
 use mm_bucket::Bucket;
 
-/// A map from places to buckets. A place has a bucket where the bytes there spell one of which all children are null, or none is.
+/// A map from places to buckets. A place has a bucket where the bytes there spell one of which all children are null, or none is; the null
+/// place has none.
 pub trait NodeStore {
     /// The bucket at a place.
     ghost bucket_at: { Self → Place → Option Node };
@@ -21,7 +22,9 @@ pub trait NodeStore {
     /// The bucket at a place that has one.
     fn read(&self, at: DiskLoc) -> Result<Bucket, NoMemory>
         requires { IsSome (bucket_at self.now at) }
-        ensures { IfOk result (λ b. (bucket_at self.now at ≡ Some (node_of b)) × AreAlike (children b)) };
+        ensures bucket { IfOk result (λ b. bucket_at self.now at ≡ Some (node_of b)) }
+        ensures alike { IfOk result (λ b. AreAlike (children b)) }
+        ensures place { OnOk result (at ≡ null → ⊥) };
 
     /// Writes a bucket in the stead of the one that is there, all of its bytes.
     fn write(&mut self, at: DiskLoc, bucket: &Bucket) -> Result<(), NoMemory>

@@ -1,7 +1,6 @@
 //! A pair is put into an index that may be unique.
 
 ghost use Rattle.std.specs.Prelude.{◌≡◌, ◌↔◌, IsTrue, IsSome, IfOk, IsErrOf, OnOk};
-ghost use Rattle.mm_base.specs.Places.{null};
 ghost use Rattle.mm_bson.specs.Walk.{document_in};
 ghost use Rattle.mm_bucket.specs.Pairs.{IsKey};
 ghost use Rattle.mm_btree.specs.Trees.{Sub};
@@ -73,7 +72,6 @@ pub fn insert<S: NodeStore>(
     unique: bool,
 ) -> Result<Option<DiskLoc>, TreeFault>
     requires key { IsKey key.now }
-    requires root { root ≡ null → ⊥ }
     requires tree { (s : Sub) × IsTree (item_lt spec.now) (S.bucket_at store.old) root height s × IsLacking spec.now (record { key = key.now; rec = rec }) s.pairs }
     ensures ok { IfOk result (λ r. (s : Sub) → IsTree (item_lt spec.now) (S.bucket_at store.old) root height s → IsLacking spec.now (record { key = key.now; rec = rec }) s.pairs
         → (t : Sub) × IsChanged (item_lt spec.now) (S.bucket_at store.old) (S.bucket_at store.new) (root_after root r) (height_after height r) s

@@ -41,3 +41,6 @@ returns-in_ok-place-in-Some-clause-ok g c =
     let x : Item = record { key = c.args.key.now; rec = c.args.rec } in
     let below = subst (λ (r : Option Up). (up : DiskLoc) → IsInserted (item_lt spec) m n c.args.root c.args.height x up r) c.in-Some.is c.in_ok-insert_below.ensures.ok in
     λ s t out. whole_some (item_lt spec) (item_chains spec) m n (node c.grow.new.store) c.args.root c.args.height x c.in_ok-place-in-Some.place c.in-Some.up s (below null) c.in_ok-place-in-Some.ensures.free c.in_ok-place-in-Some.ensures.same t (told spec x s.pairs out)
+
+pub grow-requires-clause-root : goal.grow-requires-clause-root
+grow-requires-clause-root g c = c.in_ok-insert_below.ensures.place

@@ -1,0 +1,19 @@
+//! An empty tree is made.
+
+ghost use Rattle.std.specs.Prelude.{◌≡◌, IfOk, IsErrOf};
+ghost use Rattle.mm_btree.specs.Changes.{IsMade};
+
+use crate::fault::TreeFault;
+use crate::store::NodeStore;
+use mm_base::DiskLoc;
+use mm_bucket::Bucket;
+
+/// Makes a tree without pairs, one bucket at a place that was free, and gives that place, its root. `NoSpace` only where the store is full.
+pub fn make<S: NodeStore>(store: &mut S) -> Result<DiskLoc, TreeFault>
+    ensures made { IfOk result (IsMade (S.bucket_at store.old) (S.bucket_at store.new)) }
+    ensures full { IsErrOf result TreeFault.NoSpace → S.is_full store.new }
+    ensures other { IsErrOf result TreeFault.Duplicate → ⊥ }
+{
+    let root = store.add(&Bucket::new(DiskLoc::NULL))?;
+    Ok(root)
+}
