@@ -113,12 +113,13 @@ doubles (suc (suc (suc (suc (suc (suc k)))))) lt = absurd (omega (arith, lt))
 -- The last file is that one now, and the room fell with those before it; as each but the first is twice as long as the one before it, they gave less than twice the length that was asked for.
 pub record IsPassed (old now : Image) (file u len : ℕ) : Type 0 where
   pub unused : unused_in now file ≡ Some (pos u)
+  pub few : file_len file < u + len
   pub fell : file ≤ 6 → room old + (file_len file - u) ≤ room now + 3 * len
   pub doubled : file ≤ 6 → room old + (file_len file - u) ≤ room now + (len + 2 * (file_len file - 8192))
   pub no_rise : room now ≤ room old
 
 pub none_passed : (old : Image) (file u len : ℕ) → unused_in old file ≡ Some (pos u) → file_len file < u + len → IsPassed old old file u len
-none_passed old file u len known few = record { unused = known; fell = λ le. omega (arith, few); doubled = λ le. omega (arith, few); no_rise = omega arith }
+none_passed old file u len known few = record { unused = known; few = few; fell = λ le. omega (arith, few); doubled = λ le. omega (arith, few); no_rise = omega arith }
 
 pub one_passed : (old mid new : Image) (file u len : ℕ) → IsPassed old mid file u len → room mid ≡ room new + (file_len file - u) → unused_in new (file + 1) ≡ Some (pos 8192) → 1048576 ≤ file_len file → file_len (file + 1) < 8192 + len → IsPassed old new (file + 1) 8192 len
 one_passed old mid new file u len p is fresh least few =
@@ -132,6 +133,7 @@ one_passed old mid new file u len p is fresh least few =
     in
     record {
       unused = fresh;
+      few = few;
       fell = λ le. let d = twice le in omega (arith, d, few);
       doubled = twice;
       no_rise = omega (arith, up, is);

@@ -4,6 +4,7 @@ use Rattle.mm_base.specs.Bytes.{part, padded}
 use Rattle.mm_base.specs.Places.{null}
 use Rattle.mm_base.specs.declared.place.DiskLoc.{DiskLoc}
 use Rattle.mm_ranges.specs.Overlay.{Image, bytes_at}
+use Rattle.mm_ranges.specs.declared.limits.TheConstants.{NS_FILE}
 use Rattle.mm_frames.specs.Texts.{text_in}
 use Rattle.mm_frames.specs.ExtentHeader.{extent_header_of}
 use Rattle.mm_frames.specs.declared.extent_header.ExtentHeader.{ExtentHeader}
@@ -180,3 +181,9 @@ pub record NoExtent (image : Image) (heap : Heap) (chain : List Place) (len : �
 -- The new extent at the place that a frame names so, and the free extents without it: what the files hold then, which were this image and heap before.
 abbrev pub IsMadeOf : Image → Image → List ℕ → Heap → List Place → FreeEnds → List ℕ → ℕ → DiskLoc → Type 0
 IsMadeOf old image free heap chain ends name len at = (t : Heap) × ((e : Place) × ((n : ℕ) × ((chain' : List Place) × ((at ≡ loc e) × (HasFree image free t chain' ends × IsNewExtent old heap t chain chain' e name len n)))))
+
+-- What a draft is where no extent of len bytes was to be had: files without extents may have been made behind the last one. Nothing else changed, and no file has so many bytes even then.
+pub record IsLeftFull (old new : Image) (len : ℕ) : Type 0 where
+  pub ns : bytes_at new NS_FILE ≡ bytes_at old NS_FILE
+  pub stands : (free : List ℕ) (heap : Heap) (chain : List Place) (ends : FreeEnds) → HasFree old free heap chain ends → HasFree new free heap chain ends
+  pub no_rest : NoRest new len

@@ -13,7 +13,7 @@ ghost use Rattle.mm_extents.specs.Files as files;
 ghost use Rattle.mm_extents.specs.Files.{FilesStand, HasNamesAlone, AreUnused};
 ghost use Rattle.mm_extents.specs.Rests.{IsLast, IsRest, NoRest, IsMade, IsNextRest};
 ghost use Rattle.mm_extents.specs.Room.{room, LowersRoom};
-ghost use Rattle.mm_extents.specs.FreeExtents.{HasFree};
+ghost use Rattle.mm_extents.specs.FreeExtents.{HasFree, IsLeftFull};
 
 use crate::cells::overwrite;
 use crate::fault::SpaceFault;
@@ -104,6 +104,7 @@ fn make_rest(draft: &mut Draft, last: u32, len: u32) -> Result<Spot, SpaceFault>
     ensures rest { IfOk result (λ at. IsRest draft.new.image (at.file, at.ofs) len) }
     ensures made { IfOk result (λ at. IsMade draft.old.image (at.file, at.ofs) len) }
     ensures full { IsErrOf result SpaceFault.NoSpace → (k : ℕ) → k < 8 → len_of draft.old.image k ≡ None → files.file_len k < 8192 + len }
+    ensures left { IsErrOf result SpaceFault.NoSpace → IsLeftFull draft.old.image draft.new.image len }
     ensures room { OnOk result (LowersRoom (3 * len) draft.old.image draft.new.image) }
     ensures ns { OnOk result (bytes_at draft.new.image NS_FILE ≡ bytes_at draft.old.image NS_FILE) }
     ensures weight { DeclaresAtMost 336 draft.old draft.new }
@@ -154,6 +155,7 @@ pub(crate) fn rest_of(draft: &mut Draft, len: u32) -> Result<Spot, SpaceFault>
     ensures rest { IfOk result (λ at. IsRest draft.new.image (at.file, at.ofs) len) }
     ensures next { IfOk result (λ at. IsNextRest draft.old.image (at.file, at.ofs) len) }
     ensures full { IsErrOf result SpaceFault.NoSpace → NoRest draft.old.image len }
+    ensures left { IsErrOf result SpaceFault.NoSpace → IsLeftFull draft.old.image draft.new.image len }
     ensures some { IfOk result (λ at. NoRest draft.old.image len → ⊥) }
     ensures room { OnOk result (LowersRoom (3 * len) draft.old.image draft.new.image) }
     ensures ns { OnOk result (bytes_at draft.new.image NS_FILE ≡ bytes_at draft.old.image NS_FILE) }

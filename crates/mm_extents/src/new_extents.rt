@@ -14,7 +14,7 @@ ghost use Rattle.mm_frames.specs.declared.free_ends.FreeEnds.{FreeEnds};
 ghost use Rattle.mm_ranges.specs.declared.limits.TheConstants.{NS_FILE};
 ghost use Rattle.mm_extents.specs.Rests.{NoRest};
 ghost use Rattle.mm_extents.specs.Room.{room, LowersRoom};
-ghost use Rattle.mm_extents.specs.FreeExtents.{IsFirstFree, AllShorter, IsMadeOf, NoExtent, IsClear, with_extent, header_made, next_passed, prev_passed, ExtentOr, PassFits, HasFree, IsReused, IsCutOff};
+ghost use Rattle.mm_extents.specs.FreeExtents.{IsFirstFree, AllShorter, IsMadeOf, NoExtent, IsClear, with_extent, header_made, next_passed, prev_passed, ExtentOr, PassFits, HasFree, IsReused, IsCutOff, IsLeftFull};
 
 use crate::cells::{overwrite, read_extent, set_xnext, set_xprev};
 use crate::fault::SpaceFault;
@@ -192,6 +192,7 @@ fn cut_new(draft: &mut Draft, name: &Name, len: u32) -> Result<DiskLoc, SpaceFau
     ensures ok { IfOk result (λ e. (db : List ℕ) (heap : Heap) (chain : List Place) (ends : FreeEnds) → HasFree draft.old.image db heap chain ends → AllShorter heap len chain → name.now ≢ db
         → IsMadeOf draft.old.image draft.new.image db heap chain ends name.now len e) }
     ensures full { IsErrOf result SpaceFault.NoSpace → NoRest draft.old.image len }
+    ensures left { IsErrOf result SpaceFault.NoSpace → IsLeftFull draft.old.image draft.new.image len }
     ensures space { IfOk result (λ e. NoRest draft.old.image len → ⊥) }
     ensures room { OnOk result (LowersRoom (4 * len) draft.old.image draft.new.image) }
     ensures ns { OnOk result (bytes_at draft.new.image NS_FILE ≡ bytes_at draft.old.image NS_FILE) }
@@ -204,7 +205,8 @@ fn cut_new(draft: &mut Draft, name: &Name, len: u32) -> Result<DiskLoc, SpaceFau
 
 /// A new extent of a namespace, without records, of at least `len` bytes: the first free one that is long enough, which keeps its length; else
 /// `len` bytes of the last file's unused rest; else of files that are made behind it, up to the first that has as many. Its whole room is one deleted block.
-/// `NoSpace` where none of these has as many. The room of the files falls by at most four times `len`. After an error the draft is to be dropped.
+/// `NoSpace` where none of these has as many. The room of the files falls by at most four times `len`. After an error the draft is to be dropped;
+/// after `NoSpace` it is known that only files without extents were made, and that they have as little room (`left`).
 pub fn new_extent(
     draft: &mut Draft,
     name: &Name,
@@ -217,6 +219,7 @@ pub fn new_extent(
     ensures ok { IfOk result (λ e. (db : List ℕ) (heap : Heap) (chain : List Place) → HasFree draft.old.image db heap chain free.old → name.now ≢ db
         → IsMadeOf draft.old.image draft.new.image db heap chain free.new name.now len e) }
     ensures full { IsErrOf result SpaceFault.NoSpace → (db : List ℕ) (heap : Heap) (chain : List Place) → HasFree draft.old.image db heap chain free.old → NoExtent draft.old.image heap chain len }
+    ensures left { IsErrOf result SpaceFault.NoSpace → IsLeftFull draft.old.image draft.new.image len }
     ensures space { IfOk result (λ e. (db : List ℕ) (heap : Heap) (chain : List Place) → HasFree draft.old.image db heap chain free.old → NoExtent draft.old.image heap chain len → ⊥) }
     ensures room { OnOk result (LowersRoom (4 * len) draft.old.image draft.new.image) }
     ensures ns { OnOk result (bytes_at draft.new.image NS_FILE ≡ bytes_at draft.old.image NS_FILE) }

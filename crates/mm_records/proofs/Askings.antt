@@ -1,5 +1,5 @@
 -- How many bytes are asked for.
-use Rattle.std.proofs.Common.{◌≡◌, ℕ, ℤ, pos, negsuc, suc, ◌+◌, ◌-◌, ◌*◌, ◌/◌, ◌^◌, ◌<◌, ◌≤◌, inl, inr, List, Option, Some, None, refl, sym, ◌∙◌, ap, arith}
+use Rattle.std.proofs.Common.{◌≡◌, ℕ, ℤ, pos, negsuc, zero, suc, ◌+◌, ◌-◌, ◌*◌, ◌/◌, ◌^◌, ◌<◌, ◌≤◌, inl, inr, List, Option, Some, None, refl, sym, ◌∙◌, ap, arith}
 use Rattle.std.specs.Prelude.{min, max}
 use Rattle.std.specs.Option.{option_map}
 use Rattle.std.proofs.lemmas.Bool.{cases_lt}
@@ -83,6 +83,31 @@ power_twice size step e =
 
 pub whole_is : (n : ℕ) → IsWhole n ((n + 1048575) / 1048576 * 1048576)
 whole_is n = record { k = (n + 1048575) / 1048576; is = omega arith; enough = omega arith; least = omega arith }
+
+-- the least power of two from a step on
+least_power : (n fuel step : ℕ) → n ≤ 2 ^ (5 + (step + fuel)) → ((j : ℕ) → j < step → 2 ^ (5 + j) < n) → (r : ℕ) × IsPower n r
+least_power n zero step le less =
+    let same : step + 0 ≡ step = omega arith in
+    let e : 2 ^ (5 + (step + 0)) ≡ 2 ^ (5 + step) = ap (λ (k : ℕ). 2 ^ (5 + k)) same in
+    (2 ^ (5 + step), power_is n (2 ^ (5 + step)) step refl (omega (arith, le, e)) less)
+least_power n (suc fuel) step le less = elim (cases_lt (2 ^ (5 + step)) n) [
+  | inr ge ↦ (2 ^ (5 + step), power_is n (2 ^ (5 + step)) step refl ge less)
+  | inl lt ↦
+      let same : step + suc fuel ≡ step + 1 + fuel = omega arith in
+      let e : 2 ^ (5 + (step + suc fuel)) ≡ 2 ^ (5 + (step + 1 + fuel)) = ap (λ (k : ℕ). 2 ^ (5 + k)) same in
+      least_power n fuel (step + 1) (omega (arith, le, e)) (λ j l. elim (cases_lt j step) [
+        | inl old ↦ less j old
+        | inr here ↦ let at : j ≡ step = omega (arith, l, here) in let f : 2 ^ (5 + j) ≡ 2 ^ (5 + step) = ap (λ (k : ℕ). 2 ^ (5 + k)) at in omega (arith, f, lt)
+      ])
+]
+
+-- so many bytes are asked for
+pub asked : (q : Request) (p : ℕ) → (r : ℕ) × IsAsked q p r
+asked Record p = elim (cases_lt 4194304 (p + 16)) [
+  | inl large ↦ ((p + 16 + 1048575) / 1048576 * 1048576, (λ le. absurd (omega (arith, large, le)), λ _. whole_is (p + 16)))
+  | inr small ↦ let x = least_power (p + 16) 17 0 small (λ j lt. absurd (omega (arith, lt))) in (x.0, (λ _. x.1, λ lt. absurd (omega (arith, small, lt))))
+]
+asked Bucket p = (8208, refl)
 
 -- ---- extents
 

@@ -40,5 +40,6 @@ pub mod ExtendedStands
 pub mod ExtendSteps
 pub mod LinkSteps
 pub mod Allocs
+pub mod Lefts
 pub mod Askings
 pub mod DetailsLong

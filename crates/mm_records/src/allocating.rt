@@ -4,6 +4,7 @@ ghost use Rattle.std.specs.Prelude.{◌≡◌, ℕ, ◌+◌, ◌*◌, ◌≤◌,
 ghost use Rattle.std.specs.FinMap.{get};
 ghost use Rattle.mm_links.specs.Links.{Place};
 ghost use Rattle.mm_extents.specs.Changes.{loc, DeclaresAtMost};
+ghost use Rattle.mm_extents.specs.FreeExtents.{IsLeftFull};
 ghost use Rattle.mm_extents.specs.Room.{room, LowersRoom};
 ghost use Rattle.mm_nstable.specs.Nodes.{SameNames};
 ghost use Rattle.mm_nstable.specs.Table.{Held, table_of};
@@ -69,6 +70,7 @@ fn put_new(
     ensures ok { IfOk result (λ at. (free : List ℕ) (s : Shape) → StandsWith draft.old.image free s node counts → NoBlock s (name_at draft.old.image node) len
         → (t : Shape) × (Stands draft.new.image free t × ((p : Place) × ((at ≡ loc p) × IsAllocated draft.old.image s t free (name_at draft.old.image node) p len payload.now)))) }
     ensures full { IsErrOf result SpaceFault.NoSpace → (free : List ℕ) (s : Shape) → StandsWith draft.old.image free s node counts → NoBlock s (name_at draft.old.image node) len → NoFit draft.old.image s free (name_at draft.old.image node) len }
+    ensures left { IsErrOf result SpaceFault.NoSpace → (free : List ℕ) (s : Shape) → StandsWith draft.old.image free s node counts → IsLeftFull draft.old.image draft.new.image (asked.extent_len s (name_at draft.old.image node) len) }
     ensures space { OnOk result ((free : List ℕ) (s : Shape) → StandsWith draft.old.image free s node counts → NoFit draft.old.image s free (name_at draft.old.image node) len → ⊥) }
     ensures constants { OnOk result (((held : Held) → get (table_of (ns_in draft.old.image)) (name_at draft.old.image node) ≡ Some held → constants_of held.details ≡ constants_of counts)
         → SameConstants (ns_in draft.old.image) (ns_in draft.new.image)) }
@@ -99,6 +101,7 @@ pub(crate) fn add_record(
     ensures ok { IfOk result (λ at. (free : List ℕ) (s : Shape) → Stands draft.old.image free s → IsNode draft.old.image free node
         → (t : Shape) × (Stands draft.new.image free t × ((p : Place) × ((at ≡ loc p) × IsAllocated draft.old.image s t free (name_at draft.old.image node) p len payload.now)))) }
     ensures full { IsErrOf result SpaceFault.NoSpace → (free : List ℕ) (s : Shape) → Stands draft.old.image free s → IsNode draft.old.image free node → NoFit draft.old.image s free (name_at draft.old.image node) len }
+    ensures left { IsErrOf result SpaceFault.NoSpace → (free : List ℕ) (s : Shape) → Stands draft.old.image free s → IsNode draft.old.image free node → Stands draft.new.image free s × NoFit draft.new.image s free (name_at draft.old.image node) len }
     ensures space { OnOk result ((free : List ℕ) (s : Shape) → Stands draft.old.image free s → IsNode draft.old.image free node → NoFit draft.old.image s free (name_at draft.old.image node) len → ⊥) }
     ensures constants { OnOk result (SameConstants (ns_in draft.old.image) (ns_in draft.new.image)) }
     ensures names { OnOk result (SameNames (ns_in draft.old.image) (ns_in draft.new.image)) }

@@ -7,7 +7,7 @@ ghost use Rattle.mm_links.specs.Links.{Place};
 ghost use Rattle.mm_extents.specs.Heap.{Heap, IsHeap};
 ghost use Rattle.mm_extents.specs.Changes.{loc, loc_or, LowOr, behind_of, KeepsHeaders, DeclaresAtMost};
 ghost use Rattle.mm_extents.specs.Room.{LowersRoom};
-ghost use Rattle.mm_extents.specs.FreeExtents.{next_passed, ExtentOr, NoExtent};
+ghost use Rattle.mm_extents.specs.FreeExtents.{next_passed, ExtentOr, NoExtent, IsLeftFull};
 ghost use Rattle.mm_nstable.specs.Nodes.{IsTable, SameNames, is_used};
 ghost use Rattle.mm_nstable.specs.Changes.{ns_of};
 ghost use Rattle.mm_records.specs.Constants.{constants_of, SameConstants};
@@ -101,6 +101,7 @@ pub(crate) fn add_extent(
     ensures ok { OnOk result ((free : List ℕ) (s : Shape) → StandsWith draft.old.image free s node counts.old
         → (t : Shape) × (StandsWith draft.new.image free t node counts.new × ((e : Place) × ((n : ℕ) × IsExtended draft.old.image s t free (name_at draft.old.image node) len e n)))) }
     ensures full { IsErrOf result SpaceFault.NoSpace → (free : List ℕ) (s : Shape) → StandsWith draft.old.image free s node counts.old → NoExtent draft.old.image s.heap (s.extents free) len }
+    ensures left { IsErrOf result SpaceFault.NoSpace → IsLeftFull draft.old.image draft.new.image len }
     ensures space { OnOk result ((free : List ℕ) (s : Shape) → StandsWith draft.old.image free s node counts.old → NoExtent draft.old.image s.heap (s.extents free) len → ⊥) }
     ensures constants { OnOk result (constants_of counts.new ≡ constants_of counts.old) }
     ensures same { OnOk result (SameConstants (ns_in draft.old.image) (ns_in draft.new.image)) }

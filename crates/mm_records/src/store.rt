@@ -43,7 +43,8 @@ impl RecordStore {
 
     /// Takes a place for a payload and writes it there: the map has one more pair, at a place that no map had. `request` says what the block is
     /// asked for; a bucket has at most 8192 bytes. The room of the files falls by at most four times the length of the extent that is added, where
-    /// one is. `NoSpace` exactly where the payload fits nowhere; after an error the draft is to be dropped.
+    /// one is. `NoSpace` exactly where the payload fits nowhere; after an error the draft is to be dropped. After `NoSpace` its
+    /// files still stand, with the same maps, and it still fits nowhere (`left`): files without extents may have been made.
     pub fn alloc(
         &self,
         draft: &mut Draft,
@@ -56,6 +57,8 @@ impl RecordStore {
             → (t : Shape) × (Stands draft.new.image free t × ((p : Place) × ((at ≡ loc p) × IsAllocated draft.old.image s t free (name_at draft.old.image self.now.node) p r payload.now)))) }
         ensures full { IsErrOf result SpaceFault.NoSpace → (free : List ℕ) (s : Shape) (r : ℕ) → Stands draft.old.image free s → IsNode draft.old.image free self.now.node → IsAsked request (length payload.now) r
             → NoFit draft.old.image s free (name_at draft.old.image self.now.node) r }
+        ensures left { IsErrOf result SpaceFault.NoSpace → (free : List ℕ) (s : Shape) (r : ℕ) → Stands draft.old.image free s → IsNode draft.old.image free self.now.node → IsAsked request (length payload.now) r
+            → Stands draft.new.image free s × NoFit draft.new.image s free (name_at draft.old.image self.now.node) r }
         ensures space { OnOk result ((free : List ℕ) (s : Shape) (r : ℕ) → Stands draft.old.image free s → IsNode draft.old.image free self.now.node → IsAsked request (length payload.now) r
             → NoFit draft.old.image s free (name_at draft.old.image self.now.node) r → ⊥) }
         ensures constants { OnOk result (SameConstants (ns_in draft.old.image) (ns_in draft.new.image)) }

@@ -1,7 +1,7 @@
 use Rattle.std.proofs.Common.{◌≡◌, ◌∙◌, ◌+◌, inl, inr, refl, ap, arith}
 use Rattle.std.proofs.lemmas.Bool.{cases_lt}
 use Rattle.mm_extents.specs.Files.{file_len}
-use Rattle.mm_extents.proofs.MadeFiles.{file_len_least, past_last}
+use Rattle.mm_extents.proofs.MadeFiles.{file_len_least, past_last, no_rest}
 use Rattle.mm_extents.proofs.RoomFalls.{none_passed, one_passed, passed_lowers}
 use Rattle.mm_extents.proofs.made_files.make_rest.Goals as goal
 
@@ -45,4 +45,14 @@ loop-file-preserved c =
       ];
       passed = (8192, one_passed _ _ _ c.loop-file.file p.0 c.args.len p.1 (c.in_ok-make_file.ensures.room p.0 p.1.unused) c.in_ok-make_file.ensures.unused (file_len_least c.loop-file.file) (omega (arith, few, is, least)));
       weight = omega (arith, w, v, from);
+    }
+
+pub returns-clause-left : goal.returns-clause-left
+returns-clause-left c = λ e.
+    let past = c.loop-file-test.false in
+    let p = c.loop-file.invariant.passed in
+    record {
+      ns = c.loop-file.invariant.ns;
+      stands = λ db heap chain ends f. c.loop-file.invariant.stands db heap chain ends f;
+      no_rest = no_rest _ c.loop-file.file p.0 c.args.len c.loop-file.invariant.last p.1.unused p.1.few (λ j lt absent. absurd (let more = past_last _ c.loop-file.file j c.loop-file.invariant.last absent in omega (arith, more, lt, past)));
     }

@@ -32,3 +32,6 @@ make_rest-requires-clause-few c =
 
 pub returns-then-file_len-ofs-clause-room : goal.returns-then-file_len-ofs-clause-room
 returns-then-file_len-ofs-clause-room c = lowers_none _ _ (3 * c.args.len) refl
+
+pub returns-clause-left : goal.returns-clause-left
+returns-clause-left c = c.make_rest.ensures.left

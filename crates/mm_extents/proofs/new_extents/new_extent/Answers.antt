@@ -24,3 +24,9 @@ returns-in-None-clause-full c = λ e db heap chain f. record { short = c.in-None
 
 pub returns-in-Some-clause-room : goal.returns-in-Some-clause-room
 returns-in-Some-clause-room c = on_ok_weaker c.reuse_new.result (λ e. lowers_none c.args.draft.now.image c.reuse_new.«new».draft.image (4 * c.args.len) e) c.reuse_new.ensures.room
+
+pub returns-in-Some-clause-left : goal.returns-in-Some-clause-left
+returns-in-Some-clause-left c = λ e. absurd (c.reuse_new.ensures.memory e)
+
+pub returns-in-None-clause-left : goal.returns-in-None-clause-left
+returns-in-None-clause-left c = c.cut_new.ensures.left

@@ -10,6 +10,7 @@ use Rattle.mm_records.proofs.PutBack.{in_hand}
 use Rattle.mm_records.proofs.Allocs.{alloc_found, ok_both, one_details, block_there, holds_of}
 use Rattle.mm_extents.proofs.RoomFalls.{lowers_none}
 use Rattle.mm_records.specs.Asking.{extent_len}
+use Rattle.mm_records.proofs.Lefts.{left_stands, left_fit}
 use Rattle.mm_records.proofs.allocating.add_record.Goals as goal
 
 pub details-counts-requires : goal.details-counts-requires
@@ -81,3 +82,15 @@ pub returns-in-None-clause-room : goal.returns-in-None-clause-room
 returns-in-None-clause-room c = on_ok_weaker c.put_new.result (λ f free s stands node.
     let st = in_hand c.args.draft.now.image free s c.args.node c.details-counts.result stands node (c.details-counts.ensures.table stands.table node.used) in
     record { nothing = λ b. absurd (b (c.in-None.ensures.none free s st)); most = f free s st }) c.put_new.ensures.room
+
+pub returns-in-Some-clause-left : goal.returns-in-Some-clause-left
+returns-in-Some-clause-left c = λ e. absurd (c.put_found.ensures.memory e)
+
+pub returns-in-None-clause-left : goal.returns-in-None-clause-left
+returns-in-None-clause-left c = λ e free s stands node.
+    let st = in_hand c.args.draft.now.image free s c.args.node c.details-counts.result stands node (c.details-counts.ensures.table stands.table node.used) in
+    let name = name_at c.args.draft.now.image c.args.node in
+    let l = c.put_new.ensures.left e free s st in (
+      left_stands c.args.draft.now.image c.put_new.«new».draft.image free s (extent_len s name c.args.len) stands l,
+      left_fit c.args.draft.now.image c.put_new.«new».draft.image free s name c.args.len (c.put_new.ensures.full e free s st (c.in-None.ensures.none free s st)) l,
+    )

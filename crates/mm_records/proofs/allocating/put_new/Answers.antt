@@ -8,7 +8,7 @@ use Rattle.mm_records.specs.Stands.{ns_in}
 use Rattle.mm_records.specs.Map.{name_at}
 use Rattle.mm_extents.specs.Room.{LowersRoom}
 use Rattle.mm_extents.proofs.RoomFalls.{lowers_none, lowers_both}
-use Rattle.mm_extents.specs.FreeExtents.{NoExtent}
+use Rattle.mm_extents.specs.FreeExtents.{NoExtent, IsLeftFull}
 use Rattle.mm_records.specs.Searching.{NoBlock, IsChosen}
 use Rattle.mm_records.specs.Adding.{IsAdded}
 use Rattle.mm_records.specs.Extending.{IsExtended}
@@ -81,3 +81,11 @@ returns-clause-room c = on_ok_weaker c.put_found.result (λ e free s st.
     subst (λ (l : ℕ). LowersRoom (4 * l) c.args.draft.now.image c.put_found.«new».draft.image) (c.extent_len-long.ensures.is free s st)
     (lowers_both c.args.draft.now.image c.add_extent.«new».draft.image c.put_found.«new».draft.image (4 * c.extent_len-long.result) 0 (4 * c.extent_len-long.result) c.in_ok-add_extent.ensures.room
     (lowers_none c.add_extent.«new».draft.image c.put_found.«new».draft.image 0 e) (omega arith))) c.put_found.ensures.files
+
+pub returns-in_err-add_extent-clause-left : goal.returns-in_err-add_extent-clause-left
+returns-in_err-add_extent-clause-left c =
+    let p = err_from_is_err_and c.from_residual.result c.from_residual.ensures.1 in
+    rw (p.1, p.2) (λ e free s st. subst (λ (l : ℕ). IsLeftFull c.args.draft.now.image c.add_extent.«new».draft.image l) (c.extent_len-long.ensures.is free s st) (c.in_err-add_extent.ensures.left (same_fault _ _ e)))
+
+pub returns-clause-left : goal.returns-clause-left
+returns-clause-left c = λ e. absurd (c.put_found.ensures.memory e)

@@ -265,3 +265,8 @@ returns-clause-room c =
     lowers_both c.args.draft.now.image c.new_extent.«new».draft.image c.link_extent.«new».draft.image (4 * c.args.len) 0 (4 * c.args.len) c.in_ok-new_extent.ensures.room
     (lowers_none c.new_extent.«new».draft.image c.link_extent.«new».draft.image 0
     (room_kept c.put_free_ends.«new».draft.image c.link_extent.«new».draft.image c.in_ok-link_extent.ensures.kept ∙ room_files c.new_extent.«new».draft.image c.put_free_ends.«new».draft.image lens files)) (omega arith)
+
+pub returns-in_err-new_extent-clause-left : goal.returns-in_err-new_extent-clause-left
+returns-in_err-new_extent-clause-left c =
+    let p = err_from_is_err_and c.from_residual.result c.from_residual.ensures.1 in
+    rw (p.1, p.2) (λ e. c.in_err-new_extent.ensures.left (same_fault _ _ e))

@@ -32,3 +32,14 @@ pub returns-clause-room : goal.returns-clause-room
 returns-clause-room c = on_ok_weaker c.add_record.result (λ f free s r st node asked.
     subst (λ (n : ℕ). PaysRoom s (name_at c.args.draft.now.image c.args.self.now.node) n c.args.draft.now.image c.add_record.«new».draft.image)
     (asked_once c.args.request (length c.args.payload.now) c.asked_len.result r c.asked_len.ensures.is asked) (f free s st node)) c.add_record.ensures.room
+
+pub returns-then-payload-gt-MAX_PAYLOAD_LEN-clause-left : goal.returns-then-payload-gt-MAX_PAYLOAD_LEN-clause-left
+returns-then-payload-gt-MAX_PAYLOAD_LEN-clause-left c = λ e free s r st node asked.
+    (st, too_long c.args.draft.now.image free s (name_at c.args.draft.now.image c.args.self.now.node) c.args.request (length c.args.payload.now) r st asked c.requires.bucket c.if-payload-gt-MAX_PAYLOAD_LEN.true)
+
+pub returns-clause-left : goal.returns-clause-left
+returns-clause-left c = λ e free s r st node asked.
+    let l = c.add_record.ensures.left e free s st node in (
+      l.0,
+      subst (λ (n : ℕ). NoFit c.add_record.«new».draft.image s free (name_at c.args.draft.now.image c.args.self.now.node) n) (asked_once c.args.request (length c.args.payload.now) c.asked_len.result r c.asked_len.ensures.is asked) l.1,
+    )
