@@ -8,7 +8,7 @@ use Rattle.mm_query.specs.Form.{has_dollar, has_operators, is_and, is_or}
 use Rattle.mm_query.specs.Match.{Matches}
 use Rattle.mm_query.specs.Laws.{asks, is_plain, NinIsContrary, NeIsContrary}
 
-no_and : (path : List ℕ) → has_dollar path ≡ false → is_and path ≡ false
+pub no_and : (path : List ℕ) → has_dollar path ≡ false → is_and path ≡ false
 no_and path plain = by (is_and path) refl
   where
     by : (b : Bool) → is_and path ≡ b → b ≡ false
@@ -18,7 +18,7 @@ no_and path plain = by (is_and path) refl
         let wrong : true ≡ false = ap has_dollar (sym same) ∙ plain in
         absurd cc
 
-no_or : (path : List ℕ) → has_dollar path ≡ false → is_or path ≡ false
+pub no_or : (path : List ℕ) → has_dollar path ≡ false → is_or path ≡ false
 no_or path plain = by (is_or path) refl
   where
     by : (b : Bool) → is_or path ≡ b → b ≡ false

@@ -10,3 +10,4 @@ pub mod Outer
 pub mod Within
 pub mod Selected
 pub mod Marked
+pub mod Keeps

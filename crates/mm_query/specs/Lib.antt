@@ -5,3 +5,5 @@ pub mod Selection
 pub mod TreeCode
 pub mod Laws
 pub mod Marks
+pub mod Kept
+pub mod KeptFalls

@@ -4,11 +4,13 @@ ghost use Rattle.std.specs.Prelude.{◌≡◌, ◌↔◌, true, IsTrue, option_m
 ghost use Rattle.std.specs.declared.cmp.Ordering.TheVariants.{Equal};
 ghost use Rattle.mm_bson.specs.Tree.{boolean};
 ghost use Rattle.mm_bson.specs.Order.{class as class_of, compare};
-ghost use Rattle.mm_bson.specs.View.{tree_in};
-ghost use Rattle.mm_query.specs.Form.{has_dollar as begins_with_dollar, has_operators as has_operators_in};
-ghost use Rattle.mm_query.specs.Match.{SomeOf, Equals, is_so as is_so_by, Stands, EqualsSome, HoldsAt, AllHold, MeetsAt, Meets};
+ghost use Rattle.mm_bson.specs.View.{tree, tree_in};
+ghost use Rattle.mm_query.specs.Form.{has_dollar as begins_with_dollar, has_operators as has_operators_in, operator_of as operator_by};
+ghost use Rattle.mm_query.specs.Match.{SomeOf, Equals, is_so as is_so_by, Stands, EqualsSome, HoldsAt, HoldsBy, AllHold, MeetsAt, Meets};
+ghost use Rattle.mm_query.specs.Kept.{name_of, tests_of, demand_tree, IsDemand};
 
-use crate::operator::{Operator, operator_of};
+use crate::kept::{Demand, Test};
+use crate::operator::Operator;
 use mm_bson::{Fields, Items, ValueRef};
 use std::cmp::Ordering;
 
@@ -130,19 +132,23 @@ fn holds_at(operator: Operator, operand: &ValueRef<'_>, value: &ValueRef<'_>, fo
     }
 }
 
-/// Whether all operators hold of a value, which is null where none was found.
-fn all_hold(operators: Fields<'_>, value: &ValueRef<'_>, found: bool) -> bool
-    ensures { IsTrue result ↔ AllHold operators.entry (tree_in value.now) found }
+/// Whether an operator holds of a value, which is null where none was found.
+fn one_holds(test: &Test, value: &ValueRef<'_>, found: bool) -> bool
+    ensures { IsTrue result ↔ HoldsBy (operator_by (name_of test.now.operator)) (tree test.now.operand) (tree_in value.now) found }
 {
-    let mut rest = operators;
-    while let Some(first) = rest.next() {
-        let holds = match operator_of(first.name.as_bytes()) {
-            Some(operator) => holds_at(operator, &first.value, value, found),
-            None => false,
-        };
-        if !holds {
+    holds_at(test.operator, &test.operand.as_ref(), value, found)
+}
+
+/// Whether all operators hold of a value.
+fn all_hold(tests: &[Test], value: &ValueRef<'_>, found: bool) -> bool
+    ensures { IsTrue result ↔ AllHold (tests_of tests.now) (tree_in value.now) found }
+{
+    let mut rest = tests;
+    while let [first, others @ ..] = rest {
+        if !one_holds(first, value, found) {
             return false;
         }
+        rest = others;
     }
     true
 }
@@ -168,24 +174,24 @@ pub(crate) fn has_dollar(name: &[u8]) -> bool
     }
 }
 
-fn meets_at(condition: &ValueRef<'_>, value: &ValueRef<'_>, found: bool) -> bool
-    ensures { IsTrue result ↔ MeetsAt (tree_in condition.now) (tree_in value.now) found }
+fn meets_at(demand: &Demand, value: &ValueRef<'_>, found: bool) -> bool
+    requires { IsDemand demand.now }
+    ensures { IsTrue result ↔ MeetsAt (demand_tree demand.now) (tree_in value.now) found }
 {
-    match condition {
-        ValueRef::Document(doc) if has_operators(doc.fields()) => {
-            all_hold(doc.fields(), value, found)
-        }
-        _ => equals(condition, value),
+    match demand {
+        Demand::Equality(operand) => equals(&operand.as_ref(), value),
+        Demand::Operators(tests) => all_hold(tests.as_slice(), value, found),
     }
 }
 
-/// Whether the value at a path meets a condition. A missing one counts as null
-/// but for `$exists`.
-pub(crate) fn meets(condition: &ValueRef<'_>, found: Option<ValueRef<'_>>) -> bool
-    ensures { IsTrue result ↔ Meets (tree_in condition.now) (option_map tree_in found.entry) }
+/// Whether the value at a path is such as it is asked to be. A missing one
+/// counts as null but for `$exists`.
+pub(crate) fn meets(demand: &Demand, found: Option<ValueRef<'_>>) -> bool
+    requires { IsDemand demand.now }
+    ensures { IsTrue result ↔ Meets (demand_tree demand.now) (option_map tree_in found.entry) }
 {
     match found {
-        Some(value) => meets_at(condition, &value, true),
-        None => meets_at(condition, &ValueRef::Null, false),
+        Some(value) => meets_at(demand, &value, true),
+        None => meets_at(demand, &ValueRef::Null, false),
     }
 }

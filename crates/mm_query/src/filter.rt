@@ -10,8 +10,9 @@ ghost use Rattle.mm_query.specs.Match.{Matches};
 use crate::bounds::{Bounds, key_bound};
 use crate::ends::Ends;
 use crate::fault::FilterFault;
-use crate::form::wrong_filter;
-use crate::matching::fields_match;
+use crate::form::conjunction;
+use crate::kept::Conjunction;
+use crate::matching::matches;
 use crate::memory::NoMemory;
 use crate::side::Side;
 use mm_bson::{Doc, DocRef};
@@ -19,13 +20,16 @@ use mm_keys::KeySpec;
 use std::alloc::Global;
 use std::marker::Model;
 
-/// A filter, seen as its document.
+/// A filter, seen as its document. It keeps the conditions that this has, so
+/// that no call looks at their operators again.
 #[derive(Drop)]
 pub struct Filter {
     document: Doc,
+    asks: Conjunction,
 }
 
 impl Model for Filter {
+    ghost use Rattle.std.specs.Prelude.{◌≡◌};
     ghost use Rattle.mm_bson.specs.Tree.{Elements};
     ghost use Rattle.mm_bson.specs.Code.{elements_code};
 
@@ -34,22 +38,21 @@ impl Model for Filter {
     ghost coded = { elements_code };
 
     ghost view = { λ f. f.document };
+
+    ghost invariant = { λ f. f.asks ≡ f.document };
 }
 
 impl Filter {
     /// The filter that a document is. `BadOperator` with the first wrong
     /// operator in reading order where it is none.
-    pub fn from_doc(_alloc: Global, doc: &Doc) -> Result<Filter, FilterFault>
+    pub fn from_doc(alloc: Global, doc: &Doc) -> Result<Filter, FilterFault>
         ensures ok { IfOk result (λ f. f ≡ doc.now) }
         ensures right { OnOk result (wrong_filter_in doc.now ≡ None) }
         ensures wrong { (name : List ℕ) → IsErrOf result (FilterFault.BadOperator name) → wrong_filter_in doc.now ≡ Some name }
     {
-        if let Some(name) = wrong_filter(doc.elements()) {
-            let name = name.copy()?;
-            return Err(FilterFault::BadOperator { name });
-        }
+        let asks = conjunction(alloc, doc.elements())?;
         let document = doc.copy()?;
-        Ok(Filter { document })
+        Ok(Filter { document, asks })
     }
 
     /// Whether a document matches the filter.
@@ -63,7 +66,7 @@ impl Filter {
     pub fn matches_in_place(&self, doc: &DocRef<'_>) -> bool
         ensures { IsTrue result ↔ Matches self.now doc.now }
     {
-        fields_match(self.document.as_ref().fields(), doc)
+        matches(&self.asks, doc)
     }
 
     /// Between which keys by a specification those of the matching documents

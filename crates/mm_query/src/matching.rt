@@ -1,13 +1,13 @@
-//! Whether a document matches the fields of a filter.
+//! Whether a document matches the conditions of a filter.
 
-ghost use Rattle.std.specs.Prelude.{◌≡◌, ◌↔◌, IsTrue, MatchBool};
-ghost use Rattle.mm_bson.specs.Path.{value_at_path};
-ghost use Rattle.mm_bson.specs.View.{tree_in};
+ghost use Rattle.std.specs.Prelude.{◌≡◌, ◌↔◌, IsTrue};
 ghost use Rattle.mm_query.specs.Form.{is_and as is_and_name, is_or as is_or_name};
-ghost use Rattle.mm_query.specs.Match.{Meets, Matches, AllMatch, EachMatches, SomeMatch, OneMatches};
+ghost use Rattle.mm_query.specs.Kept.{filters_of, conditions_of, IsCondition, AreConditions, Holds};
+ghost use Rattle.mm_query.specs.Match.{Matches, EachMatches, OneMatches};
 
 use crate::condition::meets;
-use mm_bson::{DocRef, FieldRef, Fields, Items, ValueRef};
+use crate::kept::{Condition, Conjunction};
+use mm_bson::DocRef;
 
 pub(crate) fn is_and(name: &[u8]) -> bool
     ensures { result ≡ is_and_name name.now }
@@ -22,77 +22,64 @@ pub(crate) fn is_or(name: &[u8]) -> bool
 }
 
 #[cycle(matching)]
-fn field_matches(field: &FieldRef<'_>, doc: &DocRef<'_>) -> bool
-    ensures { IsTrue result ↔ MatchBool (is_and_name field.now.name) (AllMatch (tree_in field.now.value) doc.now) (MatchBool (is_or_name field.now.name) (SomeMatch (tree_in field.now.value) doc.now) (Meets (tree_in field.now.value) (value_at_path field.now.name doc.now))) }
+fn holds(condition: &Condition, doc: &DocRef<'_>) -> bool
+    requires { IsCondition condition.now }
+    ensures { IsTrue result ↔ Holds condition.now doc.now }
 {
-    let name = field.name.as_bytes();
-    if is_and(name) {
-        all_match(&field.value, doc)
-    } else if is_or(name) {
-        some_match(&field.value, doc)
-    } else {
-        meets(&field.value, doc.get_bytes(name))
+    match condition {
+        Condition::At { path, demand } => meets(demand, doc.get_bytes(path.as_bytes())),
+        Condition::AllOf(filters) => each_matches(filters.as_slice(), doc),
+        Condition::AnyOf(filters) => one_matches(filters.as_slice(), doc),
     }
 }
 
-/// Whether a document matches all fields of a filter.
 #[cycle(matching)]
-pub(crate) fn fields_match(fields: Fields<'_>, doc: &DocRef<'_>) -> bool
-    ensures { IsTrue result ↔ Matches fields.entry doc.now }
+fn all_hold(conditions: &[Condition], doc: &DocRef<'_>) -> bool
+    requires { AreConditions conditions.now }
+    ensures { IsTrue result ↔ Matches (conditions_of conditions.now) doc.now }
 {
-    let mut rest = fields;
-    'fields: while let Some(first) = rest.next() {
-        if !field_matches(&first, doc) {
+    let mut rest = conditions;
+    'conditions: while let [first, others @ ..] = rest {
+        if !holds(first, doc) {
             return false;
         }
+        rest = others;
+    }
+    true
+}
+
+/// Whether a document meets all that a filter asks.
+#[cycle(matching)]
+pub(crate) fn matches(filter: &Conjunction, doc: &DocRef<'_>) -> bool
+    ensures { IsTrue result ↔ Matches filter.now doc.now }
+{
+    all_hold(filter.conditions(), doc)
+}
+
+#[cycle(matching)]
+fn each_matches(filters: &[Conjunction], doc: &DocRef<'_>) -> bool
+    ensures { IsTrue result ↔ EachMatches (filters_of filters.now) doc.now }
+{
+    let mut rest = filters;
+    'each: while let [first, others @ ..] = rest {
+        if !matches(first, doc) {
+            return false;
+        }
+        rest = others;
     }
     true
 }
 
 #[cycle(matching)]
-fn all_match(value: &ValueRef<'_>, doc: &DocRef<'_>) -> bool
-    ensures { IsTrue result ↔ AllMatch (tree_in value.now) doc.now }
+fn one_matches(filters: &[Conjunction], doc: &DocRef<'_>) -> bool
+    ensures { IsTrue result ↔ OneMatches (filters_of filters.now) doc.now }
 {
-    match value {
-        ValueRef::Document(filter) => fields_match(filter.fields(), doc),
-        ValueRef::Array(list) => each_matches(list.items(), doc),
-        _ => false,
-    }
-}
-
-#[cycle(matching)]
-fn each_matches(values: Items<'_>, doc: &DocRef<'_>) -> bool
-    ensures { IsTrue result ↔ EachMatches values.entry doc.now }
-{
-    let mut rest = values;
-    'each: while let Some(first) = rest.next() {
-        if !all_match(&first, doc) {
-            return false;
-        }
-    }
-    true
-}
-
-#[cycle(matching)]
-fn some_match(value: &ValueRef<'_>, doc: &DocRef<'_>) -> bool
-    ensures { IsTrue result ↔ SomeMatch (tree_in value.now) doc.now }
-{
-    match value {
-        ValueRef::Document(filter) => fields_match(filter.fields(), doc),
-        ValueRef::Array(list) => one_matches(list.items(), doc),
-        _ => false,
-    }
-}
-
-#[cycle(matching)]
-fn one_matches(values: Items<'_>, doc: &DocRef<'_>) -> bool
-    ensures { IsTrue result ↔ OneMatches values.entry doc.now }
-{
-    let mut rest = values;
-    'one: while let Some(first) = rest.next() {
-        if some_match(&first, doc) {
+    let mut rest = filters;
+    'one: while let [first, others @ ..] = rest {
+        if matches(first, doc) {
             return true;
         }
+        rest = others;
     }
     false
 }

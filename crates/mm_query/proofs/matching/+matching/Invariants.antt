@@ -1,52 +1,49 @@
-use Rattle.std.proofs.Common.{◌+◌, ◌*◌, ◌≤◌}
+use Rattle.std.proofs.Common.{◌+◌, ◌*◌, ◌≤◌, length}
 use Rattle.std.specs.Prelude.{◌↔◌}
-use Rattle.mm_bson.specs.Tree.{tree_depth, depth, values_depth}
-use Rattle.mm_bson.specs.Walk.{size, values_size}
-use Rattle.mm_bson.specs.View.{tree_in}
+use Rattle.mm_bson.specs.Tree.{depth, values_depth, no_elements}
 use Rattle.mm_query.specs.Match.{Matches, EachMatches, OneMatches}
+use Rattle.mm_query.specs.Kept.{filters_of, condition_on, conditions_of, AreConditions}
 use Rattle.mm_query.proofs.matching.+matching.Given as goal
 
-abbrev pub decreases-field_matches : goal.decreases-field_matches
-decreases-field_matches l = 4 * tree_depth (tree_in l.field.now.value) + 1
+abbrev pub decreases-holds : goal.decreases-holds
+decreases-holds l = 4 * depth (condition_on l.condition.now no_elements) + 1
 
-abbrev pub decreases-fields_match : goal.decreases-fields_match
-decreases-fields_match l = 4 * depth l.fields + 3
+abbrev pub decreases-all_hold : goal.decreases-all_hold
+decreases-all_hold l = 4 * depth (conditions_of l.conditions.now) + 2
 
-abbrev pub decreases-all_match : goal.decreases-all_match
-decreases-all_match l = 4 * tree_depth (tree_in l.value.now)
+abbrev pub decreases-matches : goal.decreases-matches
+decreases-matches l = 4 * depth l.filter.now + 3
 
 abbrev pub decreases-each_matches : goal.decreases-each_matches
-decreases-each_matches l = 4 * values_depth l.values + 3
-
-abbrev pub decreases-some_match : goal.decreases-some_match
-decreases-some_match l = 4 * tree_depth (tree_in l.value.now)
+decreases-each_matches l = 4 * values_depth (filters_of l.filters.now) + 4
 
 abbrev pub decreases-one_matches : goal.decreases-one_matches
-decreases-one_matches l = 4 * values_depth l.values + 3
+decreases-one_matches l = 4 * values_depth (filters_of l.filters.now) + 4
 
-abbrev pub invariant-fields_match-fields : goal.invariant-fields_match-fields
-invariant-fields_match-fields l = record {
-  same : Matches l.rest l.doc ↔ Matches l.fn.fields l.doc;
-  shallow : depth l.rest ≤ depth l.fn.fields;
+abbrev pub invariant-all_hold-conditions : goal.invariant-all_hold-conditions
+invariant-all_hold-conditions l = record {
+  same : Matches (conditions_of l.rest) l.doc ↔ Matches (conditions_of l.conditions) l.doc;
+  kept : AreConditions l.rest;
+  shallow : depth (conditions_of l.rest) ≤ depth (conditions_of l.conditions);
 }
 
-abbrev pub decreases-fields_match-fields : goal.decreases-fields_match-fields
-decreases-fields_match-fields l = size l.rest
+abbrev pub decreases-all_hold-conditions : goal.decreases-all_hold-conditions
+decreases-all_hold-conditions l = length l.rest
 
 abbrev pub invariant-each_matches-each : goal.invariant-each_matches-each
 invariant-each_matches-each l = record {
-  same : EachMatches l.rest l.doc ↔ EachMatches l.fn.values l.doc;
-  shallow : values_depth l.rest ≤ values_depth l.fn.values;
+  same : EachMatches (filters_of l.rest) l.doc ↔ EachMatches (filters_of l.filters) l.doc;
+  shallow : values_depth (filters_of l.rest) ≤ values_depth (filters_of l.filters);
 }
 
 abbrev pub decreases-each_matches-each : goal.decreases-each_matches-each
-decreases-each_matches-each l = values_size l.rest
+decreases-each_matches-each l = length l.rest
 
 abbrev pub invariant-one_matches-one : goal.invariant-one_matches-one
 invariant-one_matches-one l = record {
-  same : OneMatches l.rest l.doc ↔ OneMatches l.fn.values l.doc;
-  shallow : values_depth l.rest ≤ values_depth l.fn.values;
+  same : OneMatches (filters_of l.rest) l.doc ↔ OneMatches (filters_of l.filters) l.doc;
+  shallow : values_depth (filters_of l.rest) ≤ values_depth (filters_of l.filters);
 }
 
 abbrev pub decreases-one_matches-one : goal.decreases-one_matches-one
-decreases-one_matches-one l = values_size l.rest
+decreases-one_matches-one l = length l.rest
