@@ -1,0 +1,6 @@
+pub mod NodeBytes
+pub mod Adds
+pub mod SetUps
+pub mod Apart
+pub mod Dropped
+pub mod DropCalls
