@@ -4,12 +4,16 @@ and a `$set` of 1, 4,000 and 16,000 fields of a document that has 20,000.
 
 usage: bench/changes.py [RUNS]      (default: 3 runs of each; run `rt run` in crates/mm_cases first, which builds the program)
 
-Prints for each the median past the time of reading the same documents, and how much more that is than for the size before.
+Prints for each the median of the processor's time past that of reading the same documents, or for changes that are carried out past that of
+looking at them, how much more that is than for the size before, and the memory at most, past the same. What has to be read is read by a line
+whose answer comes at once: as a filter, which it isn't. A change that is carried out is made by the program itself, and one of 20,000 fields
+is also written out.
 """
+import os
 import statistics
 import subprocess
 import sys
-import time
+import tempfile
 from pathlib import Path
 
 TOP = Path(__file__).resolve().parent.parent
@@ -27,33 +31,43 @@ def set_of(fields: list[str]) -> str:
     return '{"$set": ' + document(fields) + "}"
 
 
-def median(line: str, runs: int) -> float:
-    took = []
+def cost(line: str, runs: int) -> tuple[float, float]:
+    """Seconds of the processor, the median, and megabytes at most."""
+    took, held = [], []
     for _ in range(runs):
-        begin = time.perf_counter()
-        subprocess.run([PROGRAM], input=line.encode() + b"\n", stdout=subprocess.PIPE, check=True)
-        took.append(time.perf_counter() - begin)
-    return statistics.median(took)
+        with tempfile.TemporaryFile() as source:
+            source.write(line.encode() + b"\n")
+            source.seek(0)
+            done = subprocess.Popen([PROGRAM], stdin=source, stdout=subprocess.DEVNULL)
+            _, status, usage = os.wait4(done.pid, 0)
+        if status:
+            sys.exit(f"{line[:40]}: status {status}")
+        took.append(usage.ru_utime + usage.ru_stime)
+        held.append(usage.ru_maxrss / 1000)
+    return statistics.median(took), max(held)
 
 
-def report(what: str, past: float, before: float | None) -> float:
+def report(what: str, whole: tuple[float, float], read: tuple[float, float], before: float | None) -> float:
+    past = whole[0] - read[0]
     growth = f", {past / before:.1f} times the size before" if before else ""
-    print(f"{what} {past * 1000:8.1f} ms{growth}")
+    print(f"{what} {past * 1000:8.1f} ms past {read[0] * 1000:.1f}, {whole[1] - read[1]:.1f} MB past {read[1]:.1f}{growth}")
     return past
 
 
 def main() -> None:
     runs = int(sys.argv[1]) if len(sys.argv) > 1 else 3
-    before = None
+    looked = before = None
     for n in PATHS:
-        read = median("change " + set_of([str(i) for i in range(n)]), runs)
-        before = report(f"{n:6} paths of an empty document", median(f"wide {n}", runs) - read, before)
+        change = set_of([str(i) for i in range(n)])
+        form = cost(f"change {change}", runs)
+        looked = report(f"{n:6} paths, looked at   ", form, cost(f"filter {change}", runs), looked)
+        before = report(f"{n:6} paths, carried out ", cost(f"wide {n}", runs), form, before)
     old = document([f"field{i}" for i in range(FIELDS)])
     before = None
     for n in EDITS:
         line = set_of([f"field{i * (FIELDS // n)}" for i in range(n)])
-        read = median("change " + line, runs)
-        before = report(f"{n:6} of {FIELDS:,} fields", median(f"apply {old} {line}", runs) - read, before)
+        read = cost(f"matches {line} {old}", runs)
+        before = report(f"{n:6} of {FIELDS:,} fields", cost(f"apply {old} {line}", runs), read, before)
 
 
 if __name__ == "__main__":
