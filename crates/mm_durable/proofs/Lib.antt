@@ -21,3 +21,5 @@ pub mod Taking
 pub mod Sealed
 pub mod Openings
 pub mod Parts
+pub mod Counted
+pub mod Gone

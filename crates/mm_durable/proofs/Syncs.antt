@@ -179,12 +179,12 @@ module _ (file : List ℕ) where
 
 -- ---- what is laid is of kept sections
 
-can_drop : (n : ℕ) (ss : List Section) → AllCan the_format ss → AllCan the_format (drop n ss)
+pub can_drop : (n : ℕ) (ss : List Section) → AllCan the_format ss → AllCan the_format (drop n ss)
 can_drop zero ss can = can
 can_drop (suc n) [] can = tt
 can_drop (suc n) (s ∷ ss) can = can_drop n ss can.1
 
-can_take : (n : ℕ) (ss : List Section) → AllCan the_format ss → AllCan the_format (take n ss)
+pub can_take : (n : ℕ) (ss : List Section) → AllCan the_format ss → AllCan the_format (take n ss)
 can_take zero ss can = tt
 can_take (suc n) [] can = tt
 can_take (suc n) (s ∷ ss) can = (can.0, can_take n ss can.1)

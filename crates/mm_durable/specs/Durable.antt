@@ -13,7 +13,7 @@ use Rattle.mm_journal.proofs.Real.{the_format, the_names}
 use Rattle.mm_prefix.specs.Prefix.{Numbers, PrefixAt, since}
 use Rattle.mm_items.specs.Files.{AreLaid}
 use Rattle.mm_items.specs.Given.{Taken, images_of, sealed_parts}
-use Rattle.mm_durable.specs.Log.{IsSound, IsKept, KeepsRun, numbers, sealed}
+use Rattle.mm_durable.specs.Log.{IsSound, IsKept, KeepsRun, LetsGo, numbers, sealed}
 use Rattle.mm_durable.specs.Intake.{is_ours, by_name, first_items, lists, group_of, has_seats, IsIntake, SameTaken}
 use Rattle.mm_durable.specs.declared.log.Log.{Log}
 use Rattle.mm_durable.specs.declared.durable.Durable.{Durable}
@@ -74,6 +74,11 @@ module _ {D : Type 0} where
   abbrev pub LeavesOff : Durable D → Option Told → Option Told → Type 0
   LeavesOff old before after = (t u : Told) (story : Story) (history : ℕ → Numbers) → before ≡ Some u → IsServed t u story history old.log (items_of old)
       → (v : Told) × (after ≡ Some v) × Leaves (PrefixAt the_format the_names story history) t v
+
+  -- the same, but for the oldest sections, which all data files have, synced
+  pub record SameButGone (old new : Durable D) : Type 0 where
+    pub gone : LetsGo old.log new.log
+    pub same_taken : SameTaken old.intake new.intake
 
   -- what a device call leaves as it is: the sealed sections, the databases, and what was taken from them
   pub record SameItems (old new : Durable D) : Type 0 where

@@ -4,3 +4,4 @@ pub mod Own
 pub mod Intake
 pub mod Durable
 pub mod Laws
+pub mod Flushed

@@ -1,5 +1,5 @@
 -- What the log is at all times, and the fact that its calls keep.
-use Rattle.std.specs.Prelude.{List, [], ◌∷◌, ◌++◌, ◌≡◌, ℕ, ◌+◌, ◌-◌, ◌<◌, ◌≤◌, ◌^◌, Bool, ◌&&◌, nat_lt, ◌==◌, length, drop, get_or, Option, Some, ◌⊎◌, vec_capacity}
+use Rattle.std.specs.Prelude.{List, [], ◌∷◌, ◌++◌, ◌≡◌, ℕ, ◌+◌, ◌-◌, ◌<◌, ◌≤◌, ◌^◌, Bool, ◌&&◌, nat_lt, ◌==◌, length, drop, get_or, max, Option, Some, ◌⊎◌, vec_capacity}
 use Rattle.mm_outside.specs.Told.{Told}
 use Rattle.mm_section.specs.declared.section.Section.{Section}
 use Rattle.mm_outside.specs.Leaves.{Leaves}
@@ -65,12 +65,49 @@ pub record KeepsRun (old new : Log) : Type 0 where
   pub dropped : new.dropped ≡ old.dropped
   pub space : vec_capacity old.sections ≤ vec_capacity new.sections
 
+-- the same, but that the oldest sections aren't kept any more: those that all data files have, synced
+pub record LetsGo (old new : Log) : Type 0 where
+  pub names : new.names.items ≡ old.names.items
+  pub last : new.last ≡ old.last
+  pub sealed_same : sealed new ≡ sealed old
+  pub dropped : new.dropped ≡ new.floor
+  pub sections : new.sections.items ≡ drop (new.dropped - old.dropped) old.sections.items
+  pub space : vec_capacity old.sections ≤ vec_capacity new.sections
+
 -- how far the sections have come is as it was
 pub record KeepsCounts (old new : Log) : Type 0 where
   pub receipts_kept : new.receipts.items ≡ old.receipts.items
   pub flushed_kept : new.flushed.items ≡ old.flushed.items
   pub floor_kept : new.floor ≡ old.floor
   pub mark_kept : new.mark ≡ old.mark
+
+-- so many sections more are synced
+pub record HasLogged (n : ℕ) (old new : Log) : Type 0 where
+  pub synced_more : synced new ≡ synced old + n
+  pub flushed_kept : new.flushed.items ≡ old.flushed.items
+  pub floor_kept : new.floor ≡ old.floor
+  pub mark_kept : new.mark ≡ old.mark
+
+-- the database of this number is flushed up to this section, or farther
+pub record HasFlushed (db upto : ℕ) (old new : Log) : Type 0 where
+  pub own : get_or new.flushed.items db 0 ≡ max (get_or old.flushed.items db 0) (upto - old.last)
+  pub others : (d : ℕ) → (d ≡ db → ⊥) → get_or new.flushed.items d 0 ≡ get_or old.flushed.items d 0
+  pub receipts_kept : new.receipts.items ≡ old.receipts.items
+  pub floor_kept : new.floor ≡ old.floor
+  pub mark_kept : new.mark ≡ old.mark
+
+-- nothing but the floor
+pub record HasSynced (old new : Log) : Type 0 where
+  pub receipts_kept : new.receipts.items ≡ old.receipts.items
+  pub flushed_kept : new.flushed.items ≡ old.flushed.items
+  pub mark_kept : new.mark ≡ old.mark
+
+-- the floor is marked
+pub record HasMarked (old new : Log) : Type 0 where
+  pub mark_is : new.mark ≡ old.floor
+  pub receipts_kept : new.receipts.items ≡ old.receipts.items
+  pub flushed_kept : new.flushed.items ≡ old.flushed.items
+  pub floor_kept : new.floor ≡ old.floor
 
 -- one section more is sealed
 pub record HasMore (old : Log) (section : Section) (new : Log) : Type 0 where

@@ -1,18 +1,20 @@
 //! The durable side over the feeds of its databases.
 
-ghost use Rattle.std.specs.Prelude.{◌≡◌, ◌+◌, ◌<◌, ◌≤◌, ◌^◌, ◌⊎◌, ℕ, [], length, map, get_or, slice_set, true, false, Some, IfOk, IfErr, IfSome, IfNone, OnOk, OnErr};
+ghost use Rattle.std.specs.Prelude.{◌≡◌, ◌+◌, ◌<◌, ◌≤◌, ◌^◌, ◌⊎◌, if◌then◌else◌, ℕ, [], length, map, get_or, slice_set, true, false, Some, IfOk, IfErr, IfSome, IfNone, OnOk, OnErr};
 ghost use Rattle.mm_outside.specs.declared.disk.Device.TheVariants.{Fault};
 ghost use Rattle.mm_outside.specs.Fault.{HasCause};
 ghost use Rattle.mm_outside.specs.Told.{Told};
 ghost use Rattle.mm_tie.specs.Ends.{taken};
+ghost use Rattle.mm_tie.specs.Items.{image_of, up_to};
 ghost use Rattle.mm_crash.specs.Recovered.{Files};
 ghost use Rattle.mm_crash.specs.Rest.{IsRecovered, new_story};
 ghost use Rattle.mm_journal.proofs.Real.{the_format, the_names};
 ghost use Rattle.mm_prefix.specs.Prefix.{at_first};
 ghost use Rattle.mm_durable.specs.Names.{AreDatabases};
-ghost use Rattle.mm_durable.specs.Log.{IsSound, IsKept, IsBegun, IsFloor, KeepsRun, KeepsCounts, HasMore, HasReceipt, HasNoReceipt, sealed, synced, has_pending, is_marked};
-ghost use Rattle.mm_durable.specs.Intake.{IsIntake, IsOwn, HasTaken, HasEntry, KeepsFeeds, GivesNext, lists, rings};
-ghost use Rattle.mm_durable.specs.Durable.{IsOrderly, IsServed, ReadItems, Serves, StillServes, ServesSealed, LeavesOff, SameItems, AllClosed, items_of, is_ready, has_closed, next_section};
+ghost use Rattle.mm_durable.specs.Log.{IsSound, IsKept, IsBegun, IsFloor, KeepsRun, KeepsCounts, HasLogged, HasFlushed, HasSynced, HasMarked, HasMore, HasReceipt, HasNoReceipt, sealed, synced, has_pending, is_marked};
+ghost use Rattle.mm_durable.specs.Intake.{IsIntake, IsOwn, HasTaken, HasEntry, KeepsFeeds, GivesNext, lists, rooms, rings};
+ghost use Rattle.mm_durable.specs.Flushed.{flushed_bytes, unflushed};
+ghost use Rattle.mm_durable.specs.Durable.{IsOrderly, IsServed, ReadItems, Serves, StillServes, ServesSealed, LeavesOff, SameItems, SameButGone, AllClosed, items_of, is_ready, has_closed, next_section};
 
 use crate::intake::Intake;
 use crate::log::{Log, Receipt};
@@ -115,14 +117,17 @@ impl<D: Disk> Durable<D> {
         self.intake.ready()
     }
 
-    /// With the database in hand, what it gave is what its feed took. Nothing changes, and it takes no memory.
+    /// With the database in hand, what it gave is what its feed took, and its shared image is that of the items of sections up to its
+    /// applied one. Nothing changes, and it takes no memory.
     pub fn agree<O: Origin>(&mut self, db: DbNo, from: &mut O)
         requires orderly { IsOrderly self.old }
         requires own { IsOwn self.old.intake db.0 (O.own_ring from.old) }
         ensures agree { HasTaken self.old.intake db.0 (O.given from.old) }
+        ensures shared { (O.viewed from.old).shared ≡ image_of (up_to (O.applied_to from.old) (O.given from.old)) }
         ensures orderly { IsOrderly self.new }
         ensures kept { Serves self.old self.new (D.told self.old.disk) (D.told self.new.disk) }
         ensures same { SameItems self.old self.new }
+        ensures log { self.new.log ≡ self.old.log }
         ensures ended { self.new.ended ≡ self.old.ended }
         ensures disk { self.new.disk ≡ self.old.disk }
         ensures origin { from.new ≡ from.old }
@@ -143,6 +148,7 @@ impl<D: Disk> Durable<D> {
         ensures agree { HasTaken self.old.intake db.0 (O.given from.old) }
         ensures gives { GivesNext (O.given from.old) (O.given from.new) }
         ensures taken { lists self.new.intake ≡ slice_set (lists self.old.intake) db.0 (O.given from.new) }
+        ensures rooms { rooms self.new.intake ≡ rooms self.old.intake }
         ensures rings { rings self.new.intake ≡ rings self.old.intake }
         ensures closes { O.closes from.old from.new }
         ensures most { O.most from.new ≡ O.most from.old }
@@ -186,6 +192,7 @@ impl<D: Disk> Durable<D> {
         ensures answer { IfOk result (λ logged. logged ≡ has_pending self.old.log) }
         ensures orderly { OnOk result (IsOrderly self.new) }
         ensures same { OnOk result (SameItems self.old self.new) }
+        ensures counts { IfOk result (λ logged. HasLogged (if logged then 1 else 0) self.old.log self.new.log) }
         ensures kept { OnOk result (Serves self.old self.new (D.told self.old.disk) (D.told self.new.disk)) }
         ensures left { OnErr result (LeavesOff self.old (D.told self.old.disk) (D.told self.new.disk)) }
         ensures going { OnOk result (self.new.ended ≡ false) }
@@ -199,16 +206,19 @@ impl<D: Disk> Durable<D> {
     }
 
     /// Lays what the sections up to the database's last applied one made and wrote in it over its files, but for those sections that are
-    /// flushed there already. It agrees first. Nothing is synced.
-    pub fn flush<O: Origin>(&mut self, db: DbNo, from: &mut O) -> Result<(), Device>
+    /// flushed there already, and answers how many bytes were written at ranges. It agrees first. Nothing is synced.
+    pub fn flush<O: Origin>(&mut self, db: DbNo, from: &mut O) -> Result<u64, Device>
         requires orderly { IsOrderly self.old }
         requires going { self.old.ended ≡ false }
         requires db { db.0 < length self.old.log.names.items }
         requires own { IsOwn self.old.intake db.0 (O.own_ring from.old) }
         requires applied { O.applied_to from.old ≤ self.old.log.last + synced self.old.log }
+        ensures bytes { IfOk result (λ bytes. bytes ≡ flushed_bytes (get_or self.old.log.names.items db.0 []) (unflushed self.old.log db.0 (O.applied_to from.old))) }
+        ensures shared { (O.viewed from.old).shared ≡ image_of (up_to (O.applied_to from.old) (O.given from.old)) }
         ensures agree { HasTaken self.old.intake db.0 (O.given from.old) }
         ensures orderly { OnOk result (IsOrderly self.new) }
         ensures same { OnOk result (SameItems self.old self.new) }
+        ensures counts { OnOk result (HasFlushed db.0 (O.applied_to from.old) self.old.log self.new.log) }
         ensures kept { OnOk result (Serves self.old self.new (D.told self.old.disk) (D.told self.new.disk)) }
         ensures left { OnErr result (LeavesOff self.old (D.told self.old.disk) (D.told self.new.disk)) }
         ensures going { OnOk result (self.new.ended ≡ false) }
@@ -219,18 +229,20 @@ impl<D: Disk> Durable<D> {
         self.intake.agree(db.0 as usize, from);
         self.ended = true;
         let upto = from.applied();
-        self.log.flush(&mut self.disk, db.0 as usize, upto)?;
+        let written = self.log.flush(&mut self.disk, db.0 as usize, upto)?;
         self.ended = false;
-        Ok(())
+        Ok(written)
     }
 
-    /// Syncs each file that a database may have. The floor is then the greatest number up to which each database is flushed.
+    /// Syncs each file that a database may have. The floor is then the greatest number up to which each database is flushed, and the sections
+    /// up to it aren't kept any more.
     pub fn sync_data(&mut self) -> Result<(), Device>
         requires orderly { IsOrderly self.old }
         requires going { self.old.ended ≡ false }
         ensures floor { OnOk result (IsFloor self.new.log.floor self.old.log) }
         ensures orderly { OnOk result (IsOrderly self.new) }
-        ensures same { OnOk result (SameItems self.old self.new) }
+        ensures same { OnOk result (SameButGone self.old self.new) }
+        ensures counts { OnOk result (HasSynced self.old.log self.new.log) }
         ensures kept { OnOk result (Serves self.old self.new (D.told self.old.disk) (D.told self.new.disk)) }
         ensures left { OnErr result (LeavesOff self.old (D.told self.old.disk) (D.told self.new.disk)) }
         ensures going { OnOk result (self.new.ended ≡ false) }
@@ -239,6 +251,7 @@ impl<D: Disk> Durable<D> {
     {
         self.ended = true;
         self.log.sync_data(&mut self.disk)?;
+        self.log.let_go();
         self.ended = false;
         Ok(())
     }
@@ -249,6 +262,7 @@ impl<D: Disk> Durable<D> {
         requires going { self.old.ended ≡ false }
         ensures orderly { OnOk result (IsOrderly self.new) }
         ensures same { OnOk result (SameItems self.old self.new) }
+        ensures counts { OnOk result (HasMarked self.old.log self.new.log) }
         ensures kept { OnOk result (Serves self.old self.new (D.told self.old.disk) (D.told self.new.disk)) }
         ensures left { OnErr result (LeavesOff self.old (D.told self.old.disk) (D.told self.new.disk)) }
         ensures going { OnOk result (self.new.ended ≡ false) }
@@ -267,6 +281,7 @@ impl<D: Disk> Durable<D> {
         requires going { self.old.ended ≡ false }
         ensures orderly { OnOk result (IsOrderly self.new) }
         ensures same { OnOk result (SameItems self.old self.new) }
+        ensures counts { OnOk result (KeepsCounts self.old.log self.new.log) }
         ensures kept { OnOk result (Serves self.old self.new (D.told self.old.disk) (D.told self.new.disk)) }
         ensures left { OnErr result (LeavesOff self.old (D.told self.old.disk) (D.told self.new.disk)) }
         ensures going { OnOk result (self.new.ended ≡ false) }
@@ -286,6 +301,7 @@ impl<D: Disk> Durable<D> {
         requires marked { is_marked self.old.log ≡ true }
         ensures orderly { OnOk result (IsOrderly self.new) }
         ensures same { OnOk result (SameItems self.old self.new) }
+        ensures counts { OnOk result (KeepsCounts self.old.log self.new.log) }
         ensures kept { OnOk result (Serves self.old self.new (D.told self.old.disk) (D.told self.new.disk)) }
         ensures left { OnErr result (LeavesOff self.old (D.told self.old.disk) (D.told self.new.disk)) }
         ensures going { OnOk result (self.new.ended ≡ false) }

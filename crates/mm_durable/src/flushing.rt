@@ -1,6 +1,6 @@
 //! What sections made and wrote in one database is laid over its files.
 
-ghost use Rattle.std.specs.Prelude.{◌≡◌, OnOk, IsTrue};
+ghost use Rattle.std.specs.Prelude.{◌≡◌, ◌<◌, ◌^◌, IfOk, OnOk, IsTrue};
 ghost use Rattle.std.specs.Ordering.{eq_by_cmp};
 ghost use Rattle.mm_outside.specs.declared.disk.Device.TheVariants.{Fault};
 ghost use Rattle.mm_outside.specs.Fault.{HasCause};
@@ -9,8 +9,10 @@ ghost use Rattle.mm_outside.specs.Ask.{Makes, MakesSome};
 ghost use Rattle.mm_section.specs.Spells.{is_db_name};
 ghost use Rattle.mm_crash.specs.Asks.{lay_asks};
 ghost use Rattle.mm_recover.specs.Laying.{AreNamed};
+ghost use Rattle.mm_durable.specs.Flushed.{flushed_bytes};
 ghost use Rattle.mm_durable.specs.Own.{own_of, own_of_parts, own_of_sections, AreAllNamed};
 
+use crate::counting::flushed_bytes;
 use mm_outside::{Device, Disk};
 use mm_ranges::Part;
 use mm_recover::lay_part;
@@ -55,8 +57,8 @@ fn lay_section<D: Disk>(
     Ok(())
 }
 
-/// Lays what these sections made and wrote in the database of this name over its files, the oldest first.
-pub fn lay_sections<D: Disk>(
+// Lays what these sections made and wrote in the database of this name over its files, the oldest first.
+fn lay_sections<D: Disk>(
     alloc: Global,
     disk: &mut D,
     sections: &[Section],
@@ -71,4 +73,22 @@ pub fn lay_sections<D: Disk>(
         lay_section(alloc, disk, section.parts.as_slice(), name)?;
     }
     Ok(())
+}
+
+/// The same, and answers how many bytes were written at ranges.
+pub fn flush_sections<D: Disk>(
+    alloc: Global,
+    disk: &mut D,
+    sections: &[Section],
+    name: &[u8],
+) -> Result<u64, Device>
+    requires named { AreAllNamed sections.now }
+    requires small { flushed_bytes name.now sections.now < 2 ^ 64 }
+    ensures bytes { IfOk result (λ bytes. bytes ≡ flushed_bytes name.now sections.now) }
+    ensures made { OnOk result (Makes (lay_asks (own_of_sections name.now sections.now)) (D.told disk.old) (D.told disk.new)) }
+    ensures cut { MakesSome (lay_asks (own_of_sections name.now sections.now)) (D.told disk.old) (D.told disk.new) }
+    ensures cause { HasCause Fault (D.faults disk.old) (D.faults disk.new) result }
+{
+    lay_sections(alloc, disk, sections, name)?;
+    Ok(flushed_bytes(sections, name))
 }

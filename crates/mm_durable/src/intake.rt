@@ -2,7 +2,7 @@
 
 ghost use Rattle.std.specs.Prelude.{◌≡◌, ◌<◌, ◌≤◌, ◌++◌, ◌∷◌, [], get_or, length, true, vec_capacity, OnOk};
 ghost use Rattle.mm_tie.specs.Ends.{taken, taker_ring, taker_room};
-ghost use Rattle.mm_tie.specs.Items.{Follows};
+ghost use Rattle.mm_tie.specs.Items.{image_of, up_to, Follows};
 
 use crate::seats::{put_parts, take_seats};
 use mm_base::{Name, NoMemory};
@@ -56,10 +56,12 @@ impl Intake {
     ghost use Rattle.mm_items.specs.Given.{sealed_parts};
     ghost use Rattle.mm_durable.specs.Intake.{IsOwn, HasTaken, SameTaken, KeepsFeeds, TakesItem, AreAllOrNone, IsIntake, has_seats, given_of};
 
-    /// With both ends in hand, what the database gave is what its feed took. Nothing changes, and it takes no memory.
+    /// With both ends in hand, what the database gave is what its feed took, and its shared image is that of the items of sections up to its
+    /// applied one. Nothing changes, and it takes no memory.
     pub fn agree<O: Origin>(&mut self, db: usize, from: &mut O)
         requires { IsOwn self.old db (O.own_ring from.old) }
         ensures agree { HasTaken self.old db (O.given from.old) }
+        ensures shared { (O.viewed from.old).shared ≡ image_of (up_to (O.applied_to from.old) (O.given from.old)) }
         ensures same { SameTaken self.old self.new }
         ensures origin { from.new ≡ from.old }
     {

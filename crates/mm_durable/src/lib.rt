@@ -6,6 +6,7 @@
 //!   alike. A call that is stopped leaves such images too.
 #![tactic(auto)]
 
+mod counting;
 mod durable;
 mod flushing;
 mod intake;

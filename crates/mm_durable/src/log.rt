@@ -5,7 +5,7 @@ ghost use Rattle.mm_outside.specs.declared.disk.Device.TheVariants.{Fault};
 ghost use Rattle.mm_outside.specs.Fault.{HasCause};
 ghost use Rattle.mm_durable.specs.Log.{IsLeast};
 
-use crate::flushing::lay_sections;
+use crate::flushing::flush_sections;
 use crate::spelling::spell;
 use crate::syncing::sync_databases;
 use mm_base::{Name, NoMemory};
@@ -44,7 +44,7 @@ pub struct Receipt {
 }
 
 impl Log {
-    ghost use Rattle.std.specs.Prelude.{ℕ, IfSome, IfNone};
+    ghost use Rattle.std.specs.Prelude.{ℕ, [], get_or, if◌then◌else◌, IfSome, IfNone};
     ghost use Rattle.mm_outside.specs.Told.{Told};
     ghost use Rattle.mm_crash.specs.Recovered.{Files};
     ghost use Rattle.mm_crash.specs.Story.{Story, with_section};
@@ -52,7 +52,8 @@ impl Log {
     ghost use Rattle.mm_journal.proofs.Real.{the_format, the_names};
     ghost use Rattle.mm_prefix.specs.Prefix.{Numbers, at_first};
     ghost use Rattle.mm_durable.specs.Names.{AreDatabases, ArePartsOf};
-    ghost use Rattle.mm_durable.specs.Log.{IsFloor, IsSound, IsKept, IsBegun, KeepsRun, KeepsCounts, HasMore, Keeps, Leaving, HasReceipt, HasNoReceipt, sealed, synced, has_pending, is_marked};
+    ghost use Rattle.mm_durable.specs.Flushed.{flushed_bytes, unflushed};
+    ghost use Rattle.mm_durable.specs.Log.{IsFloor, IsSound, IsKept, IsBegun, KeepsRun, KeepsCounts, LetsGo, HasLogged, HasFlushed, HasSynced, HasMarked, HasMore, Keeps, Leaving, HasReceipt, HasNoReceipt, sealed, synced, has_pending, is_marked};
 
     /// A run that has no section yet, over a disk that was recovered, with this number in its lsn file.
     pub fn start(alloc: Global, names: Vec<Name>, limit: u64, last: u64) -> Result<Log, NoMemory>
@@ -175,6 +176,7 @@ impl Log {
         ensures answer { IfOk result (λ logged. logged ≡ has_pending self.old) }
         ensures sound { OnOk result (IsSound self.new) }
         ensures run { OnOk result (KeepsRun self.old self.new) }
+        ensures counts { IfOk result (λ logged. HasLogged (if logged then 1 else 0) self.old self.new) }
         ensures kept { OnOk result (Keeps self.old self.new (D.told disk.old) (D.told disk.new)) }
         ensures left { OnErr result (Leaving self.old (D.told disk.old) (D.told disk.new)) }
         ensures cause { HasCause Fault (D.faults disk.old) (D.faults disk.new) result }
@@ -200,6 +202,7 @@ impl Log {
         requires pending { has_pending self.old ≡ true }
         ensures sound { OnOk result (IsSound self.new) }
         ensures run { OnOk result (KeepsRun self.old self.new) }
+        ensures counts { OnOk result (HasLogged 1 self.old self.new) }
         ensures kept { OnOk result (Keeps self.old self.new (D.told disk.old) (D.told disk.new)) }
         ensures left { OnErr result (Leaving self.old (D.told disk.old) (D.told disk.new)) }
         ensures cause { HasCause Fault (D.faults disk.old) (D.faults disk.new) result }
@@ -215,26 +218,28 @@ impl Log {
     }
 
     /// Lays what the sections up to a number made and wrote in a database over its files, but for those sections that are flushed there
-    /// already. Nothing is synced.
-    pub fn flush<D: Disk>(&mut self, disk: &mut D, db: usize, upto: u64) -> Result<(), Device>
+    /// already, and answers how many bytes were written at ranges. Nothing is synced.
+    pub fn flush<D: Disk>(&mut self, disk: &mut D, db: usize, upto: u64) -> Result<u64, Device>
         requires sound { IsSound self.old }
         requires db { db < length self.old.names.items }
         requires synced { upto ≤ self.old.last + synced self.old }
+        ensures bytes { IfOk result (λ bytes. bytes ≡ flushed_bytes (get_or self.old.names.items db []) (unflushed self.old db upto)) }
         ensures sound { OnOk result (IsSound self.new) }
         ensures run { OnOk result (KeepsRun self.old self.new) }
+        ensures counts { OnOk result (HasFlushed db upto self.old self.new) }
         ensures kept { OnOk result (Keeps self.old self.new (D.told disk.old) (D.told disk.new)) }
         ensures left { OnErr result (Leaving self.old (D.told disk.old) (D.told disk.new)) }
         ensures cause { HasCause Fault (D.faults disk.old) (D.faults disk.new) result }
     {
         let from = self.flushed[db];
         if upto <= self.last + from as u64 {
-            return Ok(());
+            return Ok(0);
         }
         let to = (upto - self.last) as usize;
         let sections = &self.sections[from - self.dropped..to - self.dropped];
-        lay_sections(self.alloc, disk, sections, self.names[db].bytes())?;
+        let written = flush_sections(self.alloc, disk, sections, self.names[db].bytes())?;
         self.flushed[db] = to;
-        Ok(())
+        Ok(written)
     }
 
     // The least number of flushed sections of any database, or that of synced ones.
@@ -250,6 +255,7 @@ impl Log {
         ensures floor { OnOk result (IsFloor self.new.floor self.old) }
         ensures sound { OnOk result (IsSound self.new) }
         ensures run { OnOk result (KeepsRun self.old self.new) }
+        ensures counts { OnOk result (HasSynced self.old self.new) }
         ensures kept { OnOk result (Keeps self.old self.new (D.told disk.old) (D.told disk.new)) }
         ensures left { OnErr result (Leaving self.old (D.told disk.old) (D.told disk.new)) }
         ensures cause { HasCause Fault (D.faults disk.old) (D.faults disk.new) result }
@@ -259,11 +265,27 @@ impl Log {
         Ok(())
     }
 
+    /// Lets go of the sections that all data files have, synced. It takes no memory.
+    pub fn let_go(&mut self)
+        requires { IsSound self.old }
+        ensures sound { IsSound self.new }
+        ensures gone { LetsGo self.old self.new }
+        ensures counts { KeepsCounts self.old self.new }
+        ensures kept { (t u : Told) (story : Story) (history : ℕ → Numbers) → IsKept t story history self.old u → IsKept t story history self.new u }
+    {
+        let count = self.floor - self.dropped;
+        let left = self.sections.as_slice().len() - count;
+        self.sections.as_mut_slice().rotate_left(count);
+        self.sections.truncate(left);
+        self.dropped = self.floor;
+    }
+
     /// Writes the floor's number into the lsn file and syncs it, where it isn't there yet.
     pub fn mark_lsn<D: Disk>(&mut self, disk: &mut D) -> Result<(), Device>
         requires sound { IsSound self.old }
         ensures sound { OnOk result (IsSound self.new) }
         ensures run { OnOk result (KeepsRun self.old self.new) }
+        ensures counts { OnOk result (HasMarked self.old self.new) }
         ensures kept { OnOk result (Keeps self.old self.new (D.told disk.old) (D.told disk.new)) }
         ensures left { OnErr result (Leaving self.old (D.told disk.old) (D.told disk.new)) }
         ensures cause { HasCause Fault (D.faults disk.old) (D.faults disk.new) result }
@@ -280,6 +302,7 @@ impl Log {
         requires sound { IsSound self.old }
         ensures sound { OnOk result (IsSound self.new) }
         ensures run { OnOk result (KeepsRun self.old self.new) }
+        ensures counts { OnOk result (KeepsCounts self.old self.new) }
         ensures kept { OnOk result (Keeps self.old self.new (D.told disk.old) (D.told disk.new)) }
         ensures left { OnErr result (Leaving self.old (D.told disk.old) (D.told disk.new)) }
         ensures cause { HasCause Fault (D.faults disk.old) (D.faults disk.new) result }
@@ -294,6 +317,7 @@ impl Log {
         requires marked { is_marked self.old ≡ true }
         ensures sound { OnOk result (IsSound self.new) }
         ensures run { OnOk result (KeepsRun self.old self.new) }
+        ensures counts { OnOk result (KeepsCounts self.old self.new) }
         ensures kept { OnOk result (Keeps self.old self.new (D.told disk.old) (D.told disk.new)) }
         ensures left { OnErr result (Leaving self.old (D.told disk.old) (D.told disk.new)) }
         ensures cause { HasCause Fault (D.faults disk.old) (D.faults disk.new) result }

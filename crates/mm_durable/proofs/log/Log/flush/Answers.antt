@@ -1,4 +1,4 @@
-use Rattle.std.proofs.Common.{◌≡◌, refl, ◌-◌, ◌+◌, ◌<◌, ◌≤◌, length, ◌∙◌, ap, arith, get_or, ℕ, List, []}
+use Rattle.std.proofs.Common.{◌≡◌, refl, ◌-◌, ◌+◌, ◌<◌, ◌≤◌, length, ◌∙◌, ap, arith, get_or, ℕ, List, [], take, drop}
 use Rattle.mm_section.specs.declared.section.Section.{Section}
 use Rattle.mm_recover.proofs.LayAsks.{some_as, made_as}
 use Rattle.mm_durable.specs.Log.{IsSound, synced}
@@ -7,6 +7,8 @@ use Rattle.mm_durable.specs.declared.log.Log.{Log}
 use Rattle.mm_durable.proofs.Steps.{on_err_holds, leaving}
 use Rattle.mm_durable.proofs.Marks.{idle}
 use Rattle.mm_durable.proofs.Flushes.{at_place, slice, slice_named, flushing_safe, flushes}
+use Rattle.mm_durable.specs.Flushed.{flushed_bytes}
+use Rattle.mm_durable.proofs.Counted.{sections_small, slice_can, slice_few, none_left, flushed_before, flushed_farther}
 use Rattle.mm_durable.proofs.log.Log.flush.Goals as goal
 
 -- how many are flushed, and the database's name
@@ -28,14 +30,18 @@ no_later old upto le = omega (arith, le)
 pub returns-then-upto-self-clause-kept : goal.returns-then-upto-self-clause-kept
 returns-then-upto-self-clause-kept g c = idle c.args.self.now c.requires.sound _
 
-pub lay_sections-requires : goal.lay_sections-requires
-lay_sections-requires g c =
+pub flush_sections-requires : goal.flush_sections-requires
+flush_sections-requires g c =
     let old = c.args.self.now in
-    slice_named old c.requires.sound c.args.db c.requires.db (c.args.upto - old.last) c.index-from.result.now (flushed_is old c.requires.sound c.args.db c.index-from.result.now c.requires.db c.index-from.ensures) (later c.args.upto old.last c.index-from.result.now c.if-upto-self.false)
-    (no_later old c.args.upto c.requires.synced) c.deref.result.now c.deref.ensures.value
+    let from = c.index-from.result.now in
+    record {
+      small = sections_small c.bytes.result.now _ (slice_can old c.requires.sound (c.args.upto - old.last) from c.deref.result.now c.deref.ensures.value) (slice_few old c.requires.sound (c.args.upto - old.last) from c.deref.result.now c.deref.ensures.value);
+      named = slice_named old c.requires.sound c.args.db c.requires.db (c.args.upto - old.last) c.index-from.result.now (flushed_is old c.requires.sound c.args.db c.index-from.result.now c.requires.db c.index-from.ensures) (later c.args.upto old.last c.index-from.result.now c.if-upto-self.false)
+          (no_later old c.args.upto c.requires.synced) c.deref.result.now c.deref.ensures.value;
+    }
 
-pub returns-in_err-lay_sections-clause-left : goal.returns-in_err-lay_sections-clause-left
-returns-in_err-lay_sections-clause-left g c =
+pub returns-in_err-written-clause-left : goal.returns-in_err-written-clause-left
+returns-in_err-written-clause-left g c =
     let old = c.args.self.now in
     let from = c.index-from.result.now in
     let k = c.args.upto - old.last in
@@ -44,7 +50,7 @@ returns-in_err-lay_sections-clause-left g c =
     let to = no_later old c.args.upto c.requires.synced in
     let part = slice old c.requires.sound c.args.db c.requires.db k from is le to c.deref.result.now c.deref.ensures.value in
     let named = name_is old.names.items c.args.db c.bytes.result.now c.index.result.now c.requires.db c.bytes.ensures.is c.index.ensures in
-    on_err_holds c.from_residual.result _ (leaving old _ _ _ (some_as _ _ _ _ (entries_as part c.bytes.result.now _ named) c.lay_sections.ensures.cut) (flushing_safe old c.requires.sound c.args.db c.requires.db k from is le to c.deref.result.now c.deref.ensures.value))
+    on_err_holds c.from_residual.result _ (leaving old _ _ _ (some_as _ _ _ _ (entries_as part c.bytes.result.now _ named) c.flush_sections.ensures.cut) (flushing_safe old c.requires.sound c.args.db c.requires.db k from is le to c.deref.result.now c.deref.ensures.value))
 
 pub returns-clause-kept : goal.returns-clause-kept
 returns-clause-kept g c =
@@ -56,4 +62,33 @@ returns-clause-kept g c =
     let to = no_later old c.args.upto c.requires.synced in
     let part = slice old c.requires.sound c.args.db c.requires.db k from is le to c.deref.result.now c.deref.ensures.value in
     let named = name_is old.names.items c.args.db c.bytes.result.now c.index.result.now c.requires.db c.bytes.ensures.is c.index.ensures in
-    flushes old c.requires.sound c.args.db c.requires.db k from is le to c.deref.result.now c.deref.ensures.value _ (record { names = refl; last = refl }) refl refl refl refl refl refl refl _ _ (made_as _ _ _ _ (entries_as part c.bytes.result.now _ named) c.in_ok-lay_sections.ensures.made)
+    flushes old c.requires.sound c.args.db c.requires.db k from is le to c.deref.result.now c.deref.ensures.value _ (record { names = refl; last = refl }) refl refl refl refl refl refl refl _ _ (made_as _ _ _ _ (entries_as part c.bytes.result.now _ named) c.in_ok-written.ensures.made)
+
+pub returns-then-upto-self-clause-bytes : goal.returns-then-upto-self-clause-bytes
+returns-then-upto-self-clause-bytes g c =
+    let old = c.args.self.now in
+    let is = flushed_is old c.requires.sound c.args.db c.index-from.result.now c.requires.db c.index-from.ensures in
+    none_left (get_or old.names.items c.args.db []) old.sections.items (get_or old.flushed.items c.args.db 0) old.dropped c.args.upto old.last (omega (arith, is, c.if-upto-self.true))
+
+pub returns-clause-bytes : goal.returns-clause-bytes
+returns-clause-bytes g c =
+    let old = c.args.self.now in
+    let from = c.index-from.result.now in
+    let is = flushed_is old c.requires.sound c.args.db from c.requires.db c.index-from.ensures in
+    let named = name_is old.names.items c.args.db c.bytes.result.now c.index.result.now c.requires.db c.bytes.ensures.is c.index.ensures in
+    c.in_ok-written.ensures.bytes
+    ∙ ap (λ (n : List ℕ). flushed_bytes n (take (c.args.upto - old.last - old.dropped - (from - old.dropped)) (drop (from - old.dropped) c.deref.result.now))) named
+    ∙ ap (λ (l : List Section). flushed_bytes (get_or old.names.items c.args.db []) (take (c.args.upto - old.last - old.dropped - (from - old.dropped)) (drop (from - old.dropped) l))) c.deref.ensures.value
+    ∙ ap (λ (n : ℕ). flushed_bytes (get_or old.names.items c.args.db []) (take (c.args.upto - old.last - old.dropped - (n - old.dropped)) (drop (n - old.dropped) old.sections.items))) is
+
+pub returns-then-upto-self-clause-counts : goal.returns-then-upto-self-clause-counts
+returns-then-upto-self-clause-counts g c =
+    let old = c.args.self.now in
+    let is = flushed_is old c.requires.sound c.args.db c.index-from.result.now c.requires.db c.index-from.ensures in
+    flushed_before old c.args.db c.args.upto (omega (arith, is, c.if-upto-self.true))
+
+pub returns-clause-counts : goal.returns-clause-counts
+returns-clause-counts g c =
+    let old = c.args.self.now in
+    let is = flushed_is old c.requires.sound c.args.db c.index-from.result.now c.requires.db c.index-from.ensures in
+    flushed_farther old c.requires.sound c.args.db c.requires.db c.args.upto (omega (arith, is, c.if-upto-self.false)) _ refl refl refl refl
