@@ -112,6 +112,18 @@ named_of image all field p h = let t = both _ _ h in record { there = t.0; named
 of_named : (image : Image) (all : List Place) (field : List ℕ) (p : Place) → IsNamedExtent image all field p → is_named_extent image all field p ≡ true
 of_named image all field p x = and_of _ _ x.there (name_own (ext_at image p).namespace field x.named)
 
+-- each place of a whole chain is one of phase 3 with the name
+pub named_of_leads : (image : Image) (all : List Place) (field : List ℕ) (node : Place) (first last : DiskLoc) (before : Option Place) (link : Link) (ps : List Place) (p : Place)
+    → Leads (chain_reading image all field node first last) before link ps End → has ps p ≡ true → IsNamedExtent image all field p
+named_of_leads image all field node first last before link [] p l h = absurd (false≢true h)
+named_of_leads image all field node first last before link (x ∷ xs) p l h = elim (either (same x p) (has xs p) h) [
+  | inl y ↦ subst (IsNamedExtent image all field) (same_is x p y) (elim (cases_Bool (is_named_extent image all field x && names_place (ext_at image x).xprev before)) [
+    | inl t ↦ named_of image all field x (both _ _ t).0
+    | inr n ↦ absurd (let f : None ≡ Some l.1 = sym (if_no _ _ _ n) ∙ l.2 in cc)
+  ])
+  | inr t ↦ named_of_leads image all field node first last (Some x) l.1 xs p l.3 t
+]
+
 -- the places of phase 3 lie in data files
 abbrev pub AllInside : Image → List Place → Type 0
 AllInside image all = (p : Place) → has all p ≡ true → InFile image p

@@ -40,7 +40,7 @@ header_of_test k bytes h =
     let a = both _ _ h in let b = both _ _ a.1 in
     record { unused = unused_of bytes; spelled = name_is bytes _ a.0; from = nat_le_true _ _ b.0; to = nat_le_true _ _ b.1 }
 
-test_of_header : (k : ℕ) (bytes : List ℕ) → k < 8 → IsHeader k bytes → is_header k bytes ≡ true
+pub test_of_header : (k : ℕ) (bytes : List ℕ) → k < 8 → IsHeader k bytes → is_header k bytes ≡ true
 test_of_header k bytes low x =
     let most = file_len_most k in let to = x.to in
     let of : file_header_of bytes ≡ header_with k x.unused = ap file_header_of x.spelled ∙ header_again k x.unused in

@@ -15,3 +15,12 @@ pub mod Lookups
 pub mod Placed
 pub mod NodeLaws
 pub mod CountLaws
+pub mod Chained
+pub mod SeenLaws
+pub mod BlockLoops
+pub mod ChainRows
+pub mod Insides
+pub mod FoundExtents
+pub mod FoundAreas
+pub mod CheckLaws
+pub mod FoundRecords

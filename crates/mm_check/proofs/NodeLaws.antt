@@ -95,7 +95,7 @@ text_name field some short = record { some = some; short = short; no_zero = text
 
 -- ---- node by node
 
-node_of_test : (d bytes : List ℕ) (k : ℕ) → node_right d bytes k ≡ true → is_free (node_at bytes k) ≡ false
+pub node_of_test : (d bytes : List ℕ) (k : ℕ) → node_right d bytes k ≡ true → is_free (node_at bytes k) ≡ false
     → IsNamed (node_at bytes k) × (has_form d (name_in (node_at bytes k)) ≡ true) × (has_name bytes k (name_in (node_at bytes k)) ≡ false)
 unfolding has_form
 node_of_test d bytes k h u = elim (either (is_free (node_at bytes k)) _ h) [

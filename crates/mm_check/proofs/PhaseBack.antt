@@ -26,7 +26,7 @@ and_of : (a b : Bool) → a ≡ false → b ≡ true → (not a && b) ≡ true
 and_of true b e f = absurd (false≢true (sym e))
 and_of false b e f = f
 
-once_append : (xs ys : List Place) → once xs ≡ true → once ys ≡ true → ((p : Place) → has xs p ≡ true → has ys p ≡ true → ⊥) → once (xs ++ ys) ≡ true
+pub once_append : (xs ys : List Place) → once xs ≡ true → once ys ≡ true → ((p : Place) → has xs p ≡ true → has ys p ≡ true → ⊥) → once (xs ++ ys) ≡ true
 once_append [] ys a b f = b
 once_append (x ∷ xs) ys a b f =
     let t = once_parts x xs a in

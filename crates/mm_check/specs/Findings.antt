@@ -138,6 +138,13 @@ pub record Clear9 (d : List ℕ) (image : Image) (chains records blocks : List (
   pub before : Clear8 d image chains records blocks
   pub counted : first_failing (count_questions image (owners d image chains) records) ≡ None
 
+-- no phase up to 9 finds anything
+pub record IsClear (d : List ℕ) (image : Image) : Type 0 where
+  pub chains : List (List Place)
+  pub records : List (List Place)
+  pub blocks : List (List Place)
+  pub clear : Clear9 d image chains records blocks
+
 -- ---- findings: all before it is right, and this is wrong at this place
 
 abbrev pub FindsFile : List ℕ → Image → Place → Type 0

@@ -10,3 +10,5 @@ pub mod BlockQuestions
 pub mod CountQuestions
 pub mod Findings
 pub mod FoundShape
+pub mod SeenNames
+pub mod BlockMap

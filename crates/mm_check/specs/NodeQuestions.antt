@@ -1,5 +1,5 @@
 -- The nodes of `.ns`: phase 2 of the check.
-use Rattle.std.specs.Prelude.{◌≡◌, ℕ, zero, suc, ◌-◌, ◌*◌, Bool, true, false, ◌&&◌, ◌||◌, ◌==◌, not, nat_le, nat_lt, List, [], ◌∷◌, ◌++◌, length, take, drop}
+use Rattle.std.specs.Prelude.{◌≡◌, ℕ, zero, suc, ◌-◌, ◌*◌, Bool, true, false, ◌&&◌, ◌||◌, ◌==◌, not, nat_le, nat_lt, List, [], ◌∷◌, ◌++◌, length, slice_index, take, drop}
 use Rattle.std.specs.List.{prefix_len, list_all}
 use Rattle.mm_base.specs.Bytes.{padded}
 use Rattle.mm_ranges.specs.declared.limits.TheConstants.{NS_FILE}
@@ -36,9 +36,10 @@ is_index i = nat_lt 0 (length i) && (nat_le (length i) 40 && list_all is_word i)
 abbrev pub dollar_at : List ℕ → ℕ
 dollar_at name = prefix_len (λ b. not (b == 36)) name
 
--- `C.$I`
+-- `C.$I`: before the first `$` a dot
 unfoldable pub is_coll_index : List ℕ → Bool
-is_coll_index name = is_name (drop (dollar_at name - 1) name) (46 ∷ 36 ∷ drop (suc (dollar_at name)) name) && (is_coll (take (dollar_at name - 1) name) && is_index (drop (suc (dollar_at name)) name))
+is_coll_index name = nat_lt 0 (dollar_at name) && (nat_lt (dollar_at name) (length name) && ((slice_index name (dollar_at name - 1) == 46)
+    && (is_coll (take (dollar_at name - 1) name) && is_index (drop (suc (dollar_at name)) name))))
 
 -- `d.$freelist`, `d.system.indexes`, `d.C` or `d.C.$I`, of 1 to 120 bytes
 abbrev pub free_name : List ℕ → List ℕ
@@ -47,9 +48,12 @@ free_name d = d ++ free_list
 abbrev pub indexes_name : List ℕ → List ℕ
 indexes_name d = d ++ 46 ∷ system_indexes
 
+-- `d.C` or `d.C.$I`
+unfoldable pub is_own : List ℕ → List ℕ → Bool
+is_own d name = begins (d ++ 46 ∷ []) name && (is_coll (drop (suc (length d)) name) || is_coll_index (drop (suc (length d)) name))
+
 unfoldable pub has_form : List ℕ → List ℕ → Bool
-has_form d name = nat_lt 0 (length name) && (nat_le (length name) 120 && (is_name name (free_name d) || (is_name name (indexes_name d)
-    || (begins (d ++ 46 ∷ []) name && (is_coll (drop (suc (length d)) name) || is_coll_index (drop (suc (length d)) name))))))
+has_form d name = nat_lt 0 (length name) && (nat_le (length name) 120 && (is_name name (free_name d) || (is_name name (indexes_name d) || is_own d name)))
 
 -- ---- the nodes
 
