@@ -2,6 +2,7 @@
 
 use md5::{Digest, Md5};
 use mm_frames::journal_header_frame;
+use mm_jfiles::JFiles;
 use mm_memdisk::MemDisk;
 use mm_outside::{Device, Disk};
 use std::alloc::Global;
@@ -80,6 +81,17 @@ pub fn disk_of(alloc: Global, rows: &[Row], is_synced: bool) -> Result<MemDisk, 
             put_file(&mut disk, &name, &bytes, is_synced)?;
         }
     }
+    Ok(disk)
+}
+
+/// A disk with the section 1 of these entries, in a file of the journal that the store's own calls began.
+pub fn logged(alloc: Global, entries: &[u8]) -> Result<MemDisk, Fail> {
+    let mut disk = MemDisk::new(alloc);
+    let mut files = JFiles::start(alloc, 16_384);
+    let mut bytes = Vec::new(alloc);
+    push_section(alloc, &mut bytes, files.id(), 1, entries)?;
+    files.append(&mut disk, &bytes, 1)?;
+    disk.sync("journal/j._0")?;
     Ok(disk)
 }
 
