@@ -1,0 +1,220 @@
+-- What each call keeps of what the tests know of a database that they hold.
+use Rattle.std.proofs.Common.{◌≡◌, ℕ, ◌+◌, ◌<◌, ◌≤◌, List, [], ◌∷◌, ◌++◌, Some, Option, Result, Ok, Err, IfOk, OnOk, OnErr, length, refl, sym, ◌∙◌, ap, subst, arith, slice_get, sum, zero, suc}
+use Rattle.std.specs.Prelude.{true, slice_index, slice_index_or, ◌^◌}
+use Rattle.std.proofs.lemmas.List.{length_push}
+use Rattle.std.specs.List.{remove}
+use Rattle.mm_ranges.specs.declared.part.Closed.{Closed}
+use Rattle.mm_model.specs.declared.command.Command.{Command}
+use Rattle.mm_tie.specs.Ends.{taken, taker_ring}
+use Rattle.mm_tie.specs.declared.ends.Taker.{Taker}
+use Rattle.mm_held.specs.declared.pass.Pass.{Pass}
+use Rattle.mm_held.specs.declared.pass.Mark.{Mark}
+use Rattle.mm_held.specs.declared.held.Done.{Done}
+use Rattle.mm_held.specs.declared.fault.Refused.{Refused}
+use Rattle.mm_probe.specs.Counts.{counted, report_of}
+use Rattle.mm_views.specs.State.{State}
+use Rattle.mm_held.specs.Images.{IsApplied}
+use Rattle.mm_held.specs.Log.{IsAboveLast, mark}
+use Rattle.mm_held.specs.Held.{HeldView, IsEntered, IsStarted, IsNewPass, AreNewPasses, Telling, entry, log_of}
+use Rattle.std.specs.FinMap.{empty}
+use Rattle.mm_ranges.specs.Overlay.{Image}
+use Rattle.mm_held.specs.Meaning.{Meaning, Stored}
+use Rattle.mm_held.specs.Loaded.{StandsIfAny}
+use Rattle.mm_held.specs.Steps.{IsSetUp}
+use Rattle.mm_rows_held.specs.Toy.{toy}
+use Rattle.mm_rows_held.specs.Bench.{IsSat, IsFed, Stays}
+
+-- each image stands for this database, as for each other
+pub some_database : Stored
+some_database = record { name = []; nodes = 0; content = empty }
+
+pub stands_always : (image : Image) → StandsIfAny toy image
+stands_always image file some = (some_database, tt)
+
+pub sets_up : (old new : Image) → IsSetUp toy old new
+sets_up old new = record { some = (some_database, tt); all = λ db h. tt }
+
+-- what the counter of the tests means
+abbrev pub telling : Telling (List ℕ)
+telling = record { state = λ c. c; start = λ c. 0 ∷ 0 ∷ 0 ∷ []; next = λ c. counted; shown = λ c. report_of }
+
+above_later : (line : ℕ) (ms : List Mark) → IsAboveLast line ms → IsAboveLast (line + 1) ms
+above_later line [] h = tt
+above_later line (m ∷ []) h = omega (arith, h)
+above_later line (m ∷ n ∷ ms) h = above_later line (n ∷ ms) h
+
+above_push : (line : ℕ) (ms : List Mark) (m : Mark) → m.entry.line < line → IsAboveLast line (ms ++ m ∷ [])
+above_push line [] m h = h
+above_push line (k ∷ []) m h = h
+above_push line (k ∷ l ∷ ms) m h = above_push line (l ∷ ms) m h
+
+-- the second of two is taken out, and the first is still there
+pub first_of_two : (xs : List Pass) (d : Pass) → 1 < length xs → slice_index_or (remove xs 1) 0 d ≡ slice_index_or xs 0 d
+first_of_two [] d h = absurd (omega (arith, h))
+first_of_two (x ∷ []) d h = absurd (omega (arith, h))
+first_of_two (x ∷ y ∷ xs) d h = refl
+
+module _ {E P : Type 0} where
+  pub stays_all : (v : HeldView E P) → Stays v v
+  stays_all v = record { rings = refl; rooms = refl; ring = refl; most = refl; given = refl }
+
+  -- a pass that isn't touched
+  pub sat_same : (old new : HeldView E P) (line : ℕ) (p : Pass) → new.rings ≡ old.rings → new.rooms ≡ old.rooms → IsSat old line p → IsSat new line p
+  sat_same old new line p rings rooms s = record {
+    seat = subst (λ rs. slice_get rs p.place ≡ Some (taker_ring p.taker)) (sym rings) s.seat;
+    room = subst (λ rs. slice_get rs p.place ≡ Some 1000) (sym rooms) s.room;
+    few = s.few;
+    above = s.above;
+  }
+
+  pub sat_later : (old new : HeldView E P) (line : ℕ) (p : Pass) → Stays old new → IsSat old line p → IsSat new (line + 1) p
+  sat_later old new line p stays s = record {
+    seat = subst (λ rs. slice_get rs p.place ≡ Some (taker_ring p.taker)) (sym stays.rings) s.seat;
+    room = subst (λ rs. slice_get rs p.place ≡ Some 1000) (sym stays.rooms) s.room;
+    few = omega (arith, s.few);
+    above = above_later line (taken p.taker) s.above;
+  }
+
+  -- a pass that shows the same
+  pub sat_alike : (v : HeldView E P) (line : ℕ) (p q : Pass) → q.place ≡ p.place → taker_ring q.taker ≡ taker_ring p.taker → taken q.taker ≡ taken p.taker → IsSat v line p → IsSat v line q
+  sat_alike v line p q place ring same s = record {
+    seat = subst (λ n. slice_get v.rings n ≡ Some (taker_ring q.taker)) (sym place) (s.seat ∙ ap Some (sym ring));
+    room = subst (λ n. slice_get v.rooms n ≡ Some 1000) (sym place) s.room;
+    few = subst (λ ms. length ms < line) (sym same) s.few;
+    above = subst (IsAboveLast line) (sym same) s.above;
+  }
+
+  -- a step
+  pub stepped : (t : Telling P) (old new : HeldView E P) (line : ℕ) (c : Command) (p q : Pass) (r : Result Done Refused) → IsSat old line p
+      → IfOk r (λ done. IsEntered t (entry p.place line c done.reply) old new) → IfOk r (λ done. taken q.taker ≡ taken p.taker ++ mark (length (log_of old)) done.section (entry p.place line c done.reply) ∷ [])
+      → OnErr r ((new ≡ old) × (taken q.taker ≡ taken p.taker)) → q.place ≡ p.place → taker_ring q.taker ≡ taker_ring p.taker → Stays old new × IsSat new (line + 1) q
+  stepped t old new line c p q (Ok done) s entered marked err place ring =
+      let stays : Stays old new = record { rings = entered.rings; rooms = entered.rooms; ring = entered.ring; most = entered.most; given = entered.given } in
+      let m = mark (length (log_of old)) done.section (entry p.place line c done.reply) in
+      let longer : length (taken q.taker) ≡ length (taken p.taker) + 1 = ap length marked ∙ length_push (taken p.taker) m in
+      let later = sat_later old new line p stays s in (
+        stays,
+        record {
+          seat = subst (λ n. slice_get new.rings n ≡ Some (taker_ring q.taker)) (sym place) (later.seat ∙ ap Some (sym ring));
+          room = subst (λ n. slice_get new.rooms n ≡ Some 1000) (sym place) later.room;
+          few = omega (arith, longer, s.few);
+          above = subst (IsAboveLast (line + 1)) (sym marked) (above_push (line + 1) (taken p.taker) m (omega arith));
+        },
+      )
+  stepped t old new line c p q (Err e) s entered marked err place ring =
+      let stays = subst (Stays old) (sym err.0) (stays_all old) in
+      (stays, sat_alike new (line + 1) p q place ring err.1 (sat_later old new line p stays s))
+
+  -- the feed
+  pub fed_stays : (old new : HeldView E P) (items : ℕ) (feed : Taker Closed) → Stays old new → IsFed old items feed → IsFed new items feed
+  fed_stays old new items feed stays f = record {
+    own = f.own ∙ sym stays.ring;
+    most = stays.most ∙ f.most;
+    few = subst (λ (xs : List Closed). length xs ≤ items) (sym stays.given) f.few;
+  }
+
+  pub fed_more : (old new : HeldView E P) (items : ℕ) (feed feed' : Taker Closed) (x : Closed) → IsFed old items feed → new.images.given ≡ old.images.given ++ x ∷ [] → new.images.most ≡ old.images.most → new.images.ring ≡ old.images.ring
+      → taker_ring feed' ≡ taker_ring feed → IsFed new (items + 1) feed'
+  fed_more old new items feed feed' x f given most ring same =
+      let longer = ap (λ (xs : List Closed). length xs) given ∙ length_push old.images.given x in
+      record {
+        own = same ∙ (f.own ∙ sym ring);
+        most = most ∙ f.most;
+        few = omega (arith, longer, f.few);
+      }
+
+  pub applied_stays : (old new : HeldView E P) (section : ℕ) → IsApplied old.images section new.images → new ≡ record old { images = new.images } → Stays old new
+  applied_stays old new section a same = record {
+    rings = ap (λ (v : HeldView E P). v.rings) same;
+    rooms = ap (λ (v : HeldView E P). v.rooms) same;
+    ring = a.ring;
+    most = a.most;
+    given = a.given;
+  }
+
+  pub stays_then : (a b c : HeldView E P) → Stays a b → c ≡ b → Stays a c
+  stays_then a b c stays same = subst (Stays a) (sym same) stays
+
+  -- memory was taken for a close
+  pub stays_ready : (old new : HeldView E P) → new ≡ record old { images = record old.images { views = record old.images.views { is_ready = true } } } → Stays old new
+  stays_ready old new same = subst (Stays old) (sym same) (record { rings = refl; rooms = refl; ring = refl; most = refl; given = refl })
+
+  -- an item more has room
+  pub fed_room : (v : HeldView E P) (items : ℕ) (feed : Taker Closed) → IsFed v items feed → items ≤ 1000 → length v.images.given < v.images.most
+  fed_room v items feed f most = omega (arith, f.few, f.most, most)
+
+  -- a pass and a feed that were agreed with
+  pub sat_settled : (old new : HeldView E P) (line : ℕ) (p q : Pass) → Stays old new → (q.place ≡ p.place) × (taker_ring q.taker ≡ taker_ring p.taker) → taken q.taker ≡ taken p.taker → IsSat old line p → IsSat new line q
+  sat_settled old new line p q stays alike same s = sat_alike new line p q alike.0 alike.1 same (sat_same old new line p stays.rings stays.rooms s)
+
+  pub fed_settled : (old new : HeldView E P) (items : ℕ) (feed feed' : Taker Closed) → Stays old new → taker_ring feed' ≡ taker_ring feed → IsFed old items feed → IsFed new items feed'
+  fed_settled old new items feed feed' stays ring f = let g = fed_stays old new items feed stays f in record { own = ring ∙ g.own; most = g.most; few = g.few }
+
+  pub ready_now : (old new : HeldView E P) → new ≡ record old { images = record old.images { views = record old.images.views { is_ready = true } } } → new.images.views.is_ready ≡ true
+  ready_now old new same = ap (λ (v : HeldView E P). v.images.views.is_ready) same
+
+  -- one after another
+  pub stays_both : (a b c : HeldView E P) → Stays a b → Stays b c → Stays a c
+  stays_both a b c s t = record {
+    rings = t.rings ∙ s.rings;
+    rooms = t.rooms ∙ s.rooms;
+    ring = t.ring ∙ s.ring;
+    most = t.most ∙ s.most;
+    given = t.given ∙ s.given;
+  }
+
+  -- a pass of the two that a database begins with
+  pub new_second : (v : HeldView E P) (passes : List Pass) (q : Pass) → AreNewPasses v passes → 1 < length passes → q ≡ slice_index_or passes 1 q → IsNewPass v 1 q
+  new_second v passes q all two is = subst (IsNewPass v 1) (sym is) (all.each 1 q two)
+
+  pub new_first : (v : HeldView E P) (passes rest : List Pass) (p : Pass) → AreNewPasses v passes → 1 < length passes → rest ≡ remove passes 1 → p ≡ slice_index_or rest 0 p → IsNewPass v 0 p
+  new_first v passes rest p all two items is =
+      let there : p ≡ slice_index_or passes 0 p = is ∙ (ap (λ (xs : List Pass). slice_index_or xs 0 p) items ∙ first_of_two passes p two) in
+      subst (IsNewPass v 0) (sym there) (all.each 0 p (omega (arith, two)))
+
+  pub two_passes : (v : HeldView E P) (passes : List Pass) (rooms : List ℕ) → AreNewPasses v passes → v.rooms ≡ rooms → rooms ≡ 1000 ∷ 1000 ∷ [] → length passes ≡ 2
+  two_passes v passes rooms all is are = let n : length v.rooms ≡ 2 = ap (λ (xs : List ℕ). length xs) (is ∙ are) in all.count ∙ n
+
+  -- the begin
+  pub sat_first : (m : Meaning) (engine : E) (probe : Option P) (loaded : State) (next groups : ℕ) (rooms : List ℕ) (v : HeldView E P) (place : ℕ) (p : Pass) → IsStarted m engine probe loaded next rooms groups v → IsNewPass v place p
+      → slice_get rooms place ≡ Some 1000 → IsSat v 1 p
+  sat_first m engine probe loaded next groups rooms v place p started new room =
+      let none : length (taken p.taker) ≡ 0 = ap (λ (ms : List Mark). length ms) new.untold in
+      record {
+        seat = new.seat;
+        room = subst (λ rs. slice_get rs p.place ≡ Some 1000) (sym started.rooms_are) (subst (λ n. slice_get rooms n ≡ Some 1000) (sym new.sits) room);
+        few = omega (arith, none);
+        above = subst (IsAboveLast 1) (sym new.untold) tt;
+      }
+
+  pub fed_first : (m : Meaning) (engine : E) (probe : Option P) (loaded : State) (next : ℕ) (rooms : List ℕ) (v : HeldView E P) (feed : Taker Closed) → IsStarted m engine probe loaded next rooms 1000 v → taker_ring feed ≡ v.images.ring → IsFed v 1 feed
+  fed_first m engine probe loaded next rooms v feed started own =
+      let one : length v.images.given ≡ 1 = ap (λ (xs : List Closed). length xs) started.given in
+      record {
+        own = own;
+        most = started.most;
+        few = omega (arith, one);
+      }
+
+-- the rooms of the two sessions
+abbrev two_rooms : List ℕ
+two_rooms = 1000 ∷ 1000 ∷ []
+
+each_some : (i : ℕ) → i < length two_rooms → 1 ≤ slice_index two_rooms i
+each_some zero h = let e : slice_index two_rooms 0 ≡ 1000 = refl in omega (arith, e)
+each_some (suc zero) h = let e : slice_index two_rooms 1 ≡ 1000 = refl in omega (arith, e)
+each_some (suc (suc i)) h = absurd (omega (arith, h))
+
+pub rooms_some : (rooms : List ℕ) → rooms ≡ 1000 ∷ 1000 ∷ [] → (i : ℕ) → i < length rooms → 1 ≤ slice_index rooms i
+rooms_some rooms are = subst (λ (rs : List ℕ). (i : ℕ) → i < length rs → 1 ≤ slice_index rs i) (sym are) each_some
+
+pub rooms_sum : (rooms : List ℕ) → rooms ≡ 1000 ∷ 1000 ∷ [] → sum rooms < 2 ^ 32
+rooms_sum rooms are = let e : sum two_rooms ≡ 2000 = refl in subst (λ (rs : List ℕ). sum rs < 2 ^ 32) (sym are) (omega (arith, e))
+
+pub rooms_two : (rooms : List ℕ) → rooms ≡ 1000 ∷ 1000 ∷ [] → (slice_get rooms 0 ≡ Some 1000) × (slice_get rooms 1 ≡ Some 1000) × (length rooms ≡ 2)
+rooms_two rooms are = subst (λ (rs : List ℕ). (slice_get rs 0 ≡ Some 1000) × (slice_get rs 1 ≡ Some 1000) × (length rs ≡ 2)) (sym are) (refl, refl, refl)
+
+-- what holds anyway holds where a call is Ok
+pub on_ok : {T E : Type 0} (r : Result T E) (P : Type 0) → P → OnOk r P
+on_ok (Ok x) P p = p
+on_ok (Err e) P p = tt
