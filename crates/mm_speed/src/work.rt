@@ -2,6 +2,7 @@
 
 ghost use Rattle.std.specs.Prelude.{◌≤◌, length};
 
+use crate::documents::{change, check, copy, matches, notation, parse, scan};
 use anyhow::{Result, bail};
 use md5::{Digest, Md5};
 use mm_section::{read_section, write_section};
@@ -27,9 +28,22 @@ fn done(alloc: Global, input: &[u8]) -> Result<String> {
         "hash" => hash(section, times),
         "read" => read(alloc, section, times)?,
         "write" => write(alloc, section, times)?,
-        _ => bail!("not hash, read or write"),
+        _ => on_documents(alloc, word, section, times)?,
     };
     Ok(format!(in alloc; "{times} times {len} bytes")?)
+}
+
+fn on_documents(alloc: Global, word: &str, bytes: &[u8], times: u32) -> Result<usize> {
+    match word {
+        "check" => check(bytes, times),
+        "parse" => parse(alloc, bytes, times),
+        "copy" => copy(alloc, bytes, times),
+        "notation" => notation(alloc, bytes, times),
+        "change" => change(alloc, bytes, times),
+        "scan" => scan(bytes, times),
+        "match" => matches(alloc, bytes, times),
+        _ => bail!("no work has this name"),
+    }
 }
 
 /// The first line, without the byte that ends it, and what follows it.
