@@ -5,7 +5,7 @@ and a `$set` of 1, 4,000 and 16,000 fields of a document that has 20,000.
 usage: bench/changes.py [RUNS]      (default: 3 runs of each; run `rt run` in crates/mm_cases first, which builds the program)
 
 Prints for each the median of the processor's time past that of reading the same documents, or for changes that are carried out past that of
-looking at them, how much more that is than for the size before, and the memory at most, past the same. What has to be read is read by a line
+looking at them, and how much more that is than for the size before. What has to be read is read by a line
 whose answer comes at once: as a filter, which it isn't. A change that is carried out is made by the program itself, and one of 20,000 fields
 is also written out.
 """
@@ -31,9 +31,9 @@ def set_of(fields: list[str]) -> str:
     return '{"$set": ' + document(fields) + "}"
 
 
-def cost(line: str, runs: int) -> tuple[float, float]:
-    """Seconds of the processor, the median, and megabytes at most."""
-    took, held = [], []
+def cost(line: str, runs: int) -> float:
+    """Seconds of the processor, the median."""
+    took = []
     for _ in range(runs):
         with tempfile.TemporaryFile() as source:
             source.write(line.encode() + b"\n")
@@ -43,14 +43,13 @@ def cost(line: str, runs: int) -> tuple[float, float]:
         if status:
             sys.exit(f"{line[:40]}: status {status}")
         took.append(usage.ru_utime + usage.ru_stime)
-        held.append(usage.ru_maxrss / 1000)
-    return statistics.median(took), max(held)
+    return statistics.median(took)
 
 
-def report(what: str, whole: tuple[float, float], read: tuple[float, float], before: float | None) -> float:
-    past = whole[0] - read[0]
+def report(what: str, whole: float, read: float, before: float | None) -> float:
+    past = whole - read
     growth = f", {past / before:.1f} times the size before" if before else ""
-    print(f"{what} {past * 1000:8.1f} ms past {read[0] * 1000:.1f}, {whole[1] - read[1]:.1f} MB past {read[1]:.1f}{growth}")
+    print(f"{what} {past * 1000:8.1f} ms past {read * 1000:.1f}{growth}")
     return past
 
 

@@ -5,7 +5,8 @@ usage: bench/documents.py [RUNS]     (3 runs, if no number is given; crates/mm_s
 
 - Small, flat and nested documents: how many MB a second are looked at in place, made and copied.
 - 1 MB of text under 99 levels, and 16,777,216 bytes under 100 levels: seconds and memory for reading, copying, changing, and for
-  reading their notation. Memory is the most that the program held, less what it held where the document was looked at in place, which takes none.
+  reading their notation. Memory is the most that the program held, its input included, of which `check` takes no more. It can't be told
+  below some 9 MB, which the process has that starts the program.
 - A filter on 10,000, 100,000 and 1,000,000 documents of some 100 bytes, which are looked at in place before: what matching adds.
 Times are the processor's: medians of many rounds less those of one round.
 """
@@ -63,17 +64,20 @@ def deep_text(levels: int, total: int) -> bytes:
     return b'{"a": ' * (levels - 1) + b'{"s": "' + b"x" * (total - front - 13) + b'"}' + b"}" * (levels - 1)
 
 
-def run(word: str, times: int, given: bytes) -> tuple[float, int, bytes]:
-    """Seconds, kilobytes at most, and the answer."""
+# A process counts the memory of the one that it came of until it begins, so what is measured comes of a small one.
+SPAWN = "import os, sys; p = os.posix_spawn(sys.argv[1], sys.argv[1:], os.environ); _, s, u = os.wait4(p, 0); print(s, u.ru_utime + u.ru_stime, u.ru_maxrss, file=sys.stderr)"
+
+
+def run(word: str, times: int, given: bytes) -> tuple[float, int]:
+    """Seconds of the processor, and kilobytes at most."""
     with tempfile.TemporaryFile() as source:
         source.write(f"{word} {times}\n".encode() + given)
         source.seek(0)
-        done = subprocess.Popen([PROGRAM], stdin=source, stdout=subprocess.PIPE)
-        said = done.stdout.read()
-        _, status, usage = os.wait4(done.pid, 0)
-    if status or not said.startswith(b"%d times" % times):
-        sys.exit(f"{word}: {status} {said!r}")
-    return usage.ru_utime + usage.ru_stime, usage.ru_maxrss, said
+        done = subprocess.run([sys.executable, "-S", "-E", "-c", SPAWN, PROGRAM], stdin=source, capture_output=True)
+    status, seconds, kilobytes = done.stderr.split()
+    if int(status) or not done.stdout.startswith(b"%d times" % times):
+        sys.exit(f"{word}: {status!r} {done.stdout!r}")
+    return float(seconds), int(kilobytes)
 
 
 def round_time(word: str, given: bytes, runs: int, times: int) -> float:
@@ -98,14 +102,13 @@ def rates(runs: int) -> None:
 def depths(runs: int) -> None:
     for levels, total in ((1, 1_000_000), (99, 1_000_000), (1, 16_777_216 - 11), (100, 16_777_216 - 11)):
         spelled = deep(levels, total)
-        base = most("check", spelled, runs)
         change = document(field(3, b"$set", document(field(16, b"b", int32(1)))))
         inside = document(field(3, b"$set", document(field(16, b".".join([b"a"] * (levels - 1) + [b"b"]), int32(1)))))
         given = {"check": spelled, "parse": spelled, "copy": spelled, "change": change + spelled, "change inside": inside + spelled, "notation": deep_text(levels, total)}
         said = []
         for word, what in given.items():
             took = round_time(word.split()[0], what, runs, 5)
-            said.append(f"{word} {took * 1000:.1f} ms {(most(word.split()[0], what, runs) - base) / 1000:.1f} MB")
+            said.append(f"{word} {took * 1000:.1f} ms {most(word.split()[0], what, runs) / 1000:.1f} MB")
         print(f"{total} bytes of {levels} levels: " + ", ".join(said))
 
 
