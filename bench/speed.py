@@ -29,7 +29,7 @@ def small(lines: int) -> bytes:
 
 
 def large(lengths: list[int]) -> bytes:
-    docs = [n.to_bytes(4, "little") + b"\x02s\0" + (n - 12).to_bytes(4, "little") + b"x" * (n - 13) + b"\0\0" for n in lengths]
+    docs = [n.to_bytes(4, "little") + b"\x02_id\0" + (n - 14).to_bytes(4, "little") + b"x" * (n - 15) + b"\0\0" for n in lengths]
     return lines_of(docs)
 
 
@@ -107,7 +107,7 @@ def main() -> None:
             before[i] = past
     took = medians(large(FULL), runs)[1]
     print(f"dump of a full file of {len(FULL)} large documents {took * 1000:7.1f} ms, {1.048576 / (took - starts[1]):,.0f} MB a second past start-up")
-    for name, docs in (("flat", [flat(n) for n in range(200_000)]), ("nested", [nested(n) for n in range(3_000)])):
+    for name, docs in (("flat", [flat(n) for n in range(100_000)]), ("nested", [nested(n) for n in range(3_000)])):
         took = medians(lines_of(docs), runs)[0]
         size = sum(len(doc) for doc in docs)
         print(f"play {len(docs):,} {name} documents of {size // len(docs):,} bytes {took * 1000:7.1f} ms, {size / (took - starts[0]) / 1e6:,.0f} MB of documents a second")

@@ -1,12 +1,12 @@
 -- The headers of a file and of its extent, by their fields.
-use Rattle.std.proofs.Common.{◌≡◌, ℕ, zero, suc, ℤ, pos, ◌^◌, ◌<◌, true, List, [], ◌∷◌, length, codes, refl, sym, ap, ◌∙◌, arith, get_or, inl, inr, ◌⊎◌}
+use Rattle.std.proofs.Common.{◌≡◌, ℕ, zero, suc, ℤ, pos, ◌^◌, ◌<◌, ◌≤◌, List, [], ◌∷◌, length, codes, refl, sym, ap, ◌∙◌, arith, get_or, inl, inr, ◌⊎◌}
 use Rattle.std.specs.Int.{w32, cast_signed}
 use Rattle.std.specs.Int.{cast_unsigned as of_z}
 use Rattle.std.specs.Prelude.{FitsSigned, Contains}
-use Rattle.std.specs.List.{AllPass, AllByRecursion}
+use Rattle.std.specs.List.{AllByRecursion}
 use Rattle.std.proofs.lemmas.Int.{ints, to_z_pos, to_z-of_z}
-use Rattle.std.proofs.lemmas.Bool.{false≢true}
-use Rattle.std.proofs.lemmas.List.Elements.{All-contains, Contains-append_cases}
+use Rattle.std.proofs.lemmas.Bool.{and_parts, leb-true}
+use Rattle.std.proofs.lemmas.List.Elements.{Contains-append_cases}
 use Rattle.mm_base.specs.Bytes.{part, padded, zeros}
 use Rattle.mm_base.specs.Names.{IsName}
 use Rattle.mm_base.specs.Tables.{HasAll}
@@ -19,10 +19,11 @@ use Rattle.mm_frames.specs.FileHeader.{file_header_of}
 use Rattle.mm_frames.specs.declared.extent_header.ExtentHeader.{ExtentHeader}
 use Rattle.mm_frames.specs.declared.file_header.FileHeader.{FileHeader}
 use Rattle.mm_frames.proofs.Again.{file_header_is, extent_header_is}
+use Rattle.mm_script.proofs.NameSteps.{collection_is_name}
 use Rattle.mm_main.specs.Contents.{full_name}
 use Rattle.mm_main.specs.DataFile.{at_file_0, header_with, namespace_of, HasFileHeader}
 use Rattle.mm_main.specs.Findings.{extent_linking}
-use Rattle.mm_main.specs.Inserts.{IsCollection, is_name_byte}
+use Rattle.mm_main.specs.Collections.{IsCollection}
 use Rattle.mm_main.specs.Opening.{HasConstants, HasNumbers}
 use Rattle.mm_main.specs.Room.{file_len, extent_at}
 
@@ -115,9 +116,6 @@ constants_of collection first last h is = record {
 
 -- ---- names
 
-not_zero : (b : ℕ) → is_name_byte b ≡ true → b ≡ 0 → ⊥
-not_zero b name is = false≢true (ap is_name_byte (sym is) ∙ name)
-
 none_at : (bytes : List ℕ) → AllByRecursion (λ b. b ≡ 0 → ⊥) bytes → (k : ℕ) → k < length bytes → get_or bytes k 0 ≡ 0 → ⊥
 none_at [] all k small is = omega arith
 none_at (b ∷ bytes) all zero small is = all.0 is
@@ -126,16 +124,19 @@ none_at (b ∷ bytes) all (suc k) small is = none_at bytes all.1 k (omega arith)
 front_has_no_zero : Contains (codes "test.") 0 → ⊥
 front_has_no_zero inside = none_at (codes "test.") ((λ e. cc), ((λ e. cc), ((λ e. cc), ((λ e. cc), ((λ e. cc), tt))))) inside.0 inside.1 inside.2
 
-no_zero_in : (collection : List ℕ) → AllPass is_name_byte collection → Contains (codes "test.") 0 ⊎ Contains collection 0 → ⊥
-no_zero_in collection bytes (inl front) = front_has_no_zero front
-no_zero_in collection bytes (inr back) = not_zero 0 (All-contains (λ b. is_name_byte b ≡ true) collection 0 bytes back) refl
+no_zero_in : (collection : List ℕ) → IsName collection → Contains (codes "test.") 0 ⊎ Contains collection 0 → ⊥
+no_zero_in collection is (inl front) = front_has_no_zero front
+no_zero_in collection is (inr back) = is.no_zero back
+
+short_name : (collection : List ℕ) → IsCollection collection → length collection ≤ 60
+short_name collection is = leb-true (length collection) 60 (and_parts _ _ (and_parts _ _ (and_parts _ _ is).0).0).1
 
 -- the full name of a collection is a name
 pub name_of_collection : (collection : List ℕ) → IsCollection collection → IsName (full_name collection)
 name_of_collection collection is = record {
   some = omega arith;
-  short = omega (arith, is.short);
-  no_zero = λ inside. no_zero_in collection is.bytes (Contains-append_cases (codes "test.") collection 0 inside);
+  short = omega (arith, short_name collection is);
+  no_zero = λ inside. no_zero_in collection (collection_is_name collection is) (Contains-append_cases (codes "test.") collection 0 inside);
 }
 
 -- a padded field holds one name

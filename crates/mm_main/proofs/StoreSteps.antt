@@ -1,5 +1,5 @@
 -- Documents that are stored one after another, and the file that is read off the shared image.
-use Rattle.std.proofs.Common.{false, ◌≡◌, ℕ, ◌+◌, ◌-◌, ◌<◌, ◌≤◌, List, [], ◌∷◌, ◌++◌, length, map, take, replicate, sym, ap, ◌∙◌, arith, subst, length-drop, length-append, None, unwrap_or}
+use Rattle.std.proofs.Common.{false, ◌≡◌, ℕ, ◌+◌, ◌-◌, ◌<◌, ◌≤◌, List, [], ◌∷◌, ◌++◌, length, map, take, drop, get_or, refl, replicate, sym, ap, ◌∙◌, arith, subst, length-drop, length-append, None, unwrap_or}
 use Rattle.std.specs.FinMap.{get, insert, get-empty}
 use Rattle.std.specs.Ordering.{nat_cmp}
 use Rattle.std.proofs.Math.Seq.{take-add}
@@ -7,17 +7,22 @@ use Rattle.std.proofs.lemmas.List.{take_all, length-replicate, length-take}
 use Rattle.mm_bytes.specs.Files.{read_from}
 use Rattle.mm_views.specs.State.{Drafting, no_views, drafting_of}
 use Rattle.mm_views.proofs.Making.{get-put}
+use Rattle.mm_bson.specs.Built.{IsBuilt}
 use Rattle.mm_bson.specs.Tree.{Elements}
 use Rattle.mm_bson.specs.Spelling.{spelling}
+use Rattle.mm_model.specs.declared.action.Action.{Action}
 use Rattle.mm_ranges.specs.declared.part.Made.{Made}
 use Rattle.mm_main.specs.declared.answers.Reply.{Reply}
 use Rattle.mm_main.specs.declared.answers.Reply.TheVariants.{Done, NoSpace}
 use Rattle.mm_main.specs.declared.store.Store.{Store}
+use Rattle.mm_main.specs.Contents.{AreBuilt}
 use Rattle.mm_main.specs.Drafted.{drafted, end_from}
+use Rattle.mm_main.specs.Inserts.{IsInsert, AreInserts, doc_of, docs_of}
 use Rattle.mm_main.specs.Room.{file_len, first_at, request, block_len, replies_of, stored}
 use Rattle.mm_main.specs.Storing.{IsStore, IsAnswered}
 use Rattle.mm_main.proofs.FileSteps.{block_inside}
 use Rattle.mm_main.proofs.MoreSteps.{end_push, stands_inside}
+use Rattle.mm_main.proofs.PlayedSteps.{cut}
 use Rattle.mm_main.proofs.RoomSteps.{Answering, answering_first, answering_done, answering_none, answering_all}
 
 -- ---- the new file
@@ -72,6 +77,46 @@ pub storing_all : (collection : List ℕ) (docs : List Elements) (replies : List
 storing_all collection docs replies store s =
     let all = answering_all docs replies s.payloads store.chain.end s.answering in
     (all.0, subst (λ (ps : List (List ℕ)). IsStore collection ps store) all.1 s.holds)
+
+-- ---- one action after another
+
+pub record Inserting (collection : List ℕ) (actions left : List Action) (replies : List Reply) (store : Store) : Type 0 where
+  pub storing : Storing collection (docs_of actions) (docs_of left) replies store
+  pub inserts : AreInserts collection left
+  pub built : AreBuilt (docs_of left) → AreBuilt (docs_of actions)
+
+pub inserting_first : (collection : List ℕ) (actions : List Action) (replies : List Reply) (store : Store) → AreInserts collection actions → replies ≡ [] → IsStore collection [] store → Inserting collection actions actions replies store
+inserting_first collection actions replies store inserts none s = record {
+  storing = subst (λ (rs : List Reply). Storing collection (docs_of actions) (docs_of actions) rs store) (sym none) (storing_first collection (docs_of actions) store s);
+  inserts = inserts;
+  built = λ all. all;
+}
+
+-- the next action inserts
+pub inserting_next : (collection : List ℕ) (actions : List Action) (i : ℕ) (a : Action) (replies : List Reply) (store : Store) → i < length actions → a ≡ get_or actions i a → Inserting collection actions (drop i actions) replies store → IsInsert collection a
+inserting_next collection actions i a replies store inside is s = (subst (AreInserts collection) (cut actions i a inside is) s.inserts).0
+
+inserted : (collection : List ℕ) (actions left : List Action) (a : Action) (replies : List Reply) (store new : Store) (reply : Reply) → Inserting collection actions (a ∷ left) replies store → IsBuilt (doc_of a)
+    → ((payloads : List (List ℕ)) → IsStore collection payloads store → IsAnswered collection payloads (spelling (doc_of a)) new reply) → Inserting collection actions left (replies ++ reply ∷ []) new
+inserted collection actions left a replies store new reply s built answered = record {
+  storing = storing_more collection (docs_of actions) (docs_of left) (doc_of a) (spelling (doc_of a)) replies store new reply s.storing refl (answered s.storing.payloads s.storing.holds);
+  inserts = s.inserts.1;
+  built = λ all. s.built (built, all);
+}
+
+pub inserting_more : (collection : List ℕ) (actions : List Action) (i : ℕ) (a : Action) (replies more : List Reply) (store new : Store) (reply : Reply) → i < length actions → a ≡ get_or actions i a → Inserting collection actions (drop i actions) replies store
+    → IsBuilt (doc_of a) → ((payloads : List (List ℕ)) → IsStore collection payloads store → IsAnswered collection payloads (spelling (doc_of a)) new reply) → more ≡ replies ++ reply ∷ []
+    → Inserting collection actions (drop (i + 1) actions) more new
+inserting_more collection actions i a replies more store new reply inside is s built answered more_is =
+    let here = subst (λ (left : List Action). Inserting collection actions left replies store) (cut actions i a inside is) s in
+    subst (λ (rs : List Reply). Inserting collection actions (drop (i + 1) actions) rs new) (sym more_is) (inserted collection actions (drop (i + 1) actions) a replies store new reply here built answered)
+
+pub inserting_all : (collection : List ℕ) (actions left : List Action) (replies : List Reply) (store : Store) → left ≡ [] → Inserting collection actions left replies store
+    → (replies ≡ replies_of (docs_of actions)) × IsStore collection (map spelling (stored (docs_of actions))) store × AreBuilt (docs_of actions)
+inserting_all collection actions left replies store none s =
+    let all = subst (λ (rest : List Action). Inserting collection actions rest replies store) none s in
+    let answered = storing_all collection (docs_of actions) replies store all.storing in
+    (answered.0, answered.1, all.built tt)
 
 -- ---- the file, piece by piece
 

@@ -1,5 +1,5 @@
 -- What playing promises, from what it came to.
-use Rattle.std.proofs.Common.{◌≡◌, ℕ, ◌+◌, ◌<◌, zero, suc, List, [], ◌∷◌, length, take, string_bytes, ap, ◌∙◌, arith, inl, inr, refl, Option, Some, None, subst, false, is_some, ◌⊎◌}
+use Rattle.std.proofs.Common.{◌≡◌, ℕ, ◌+◌, List, [], ◌∷◌, take, string_bytes, ap, ◌∙◌, inl, inr, refl, Option, Some, None, subst, false, is_some}
 use Rattle.std.specs.FinMap.{get, keys, contains_key-keys}
 use Rattle.std.specs.Ordering.{eq_by_cmp}
 use Rattle.std.specs.List.{list_any}
@@ -10,17 +10,18 @@ use Rattle.mm_outside.specs.Ask.{asked, new_file_asks}
 use Rattle.mm_outside.proofs.Cuts.{cut_all}
 use Rattle.mm_outside.proofs.NewFile.{place_of_file_written, place_of_other_file}
 use Rattle.mm_bson.specs.Tree.{Elements}
+use Rattle.mm_script.specs.declared.fault.LineWhat.{LineWhat}
+use Rattle.mm_script.specs.Script.{most_bytes}
 use Rattle.mm_main.specs.declared.play.End.{End}
 use Rattle.mm_main.specs.declared.play.End.TheVariants.{Refused, Present, Played, SourceFailed, DiskFailed, NoMemory}
 use Rattle.mm_main.specs.declared.status.Status.TheVariants as status
-use Rattle.mm_main.specs.Ends.{IfComing, IsAnyScript, PlayEnds, IsUnasked, end_text, end_status}
+use Rattle.mm_main.specs.Ends.{IfComing, PlayEnds, IsUnasked, end_text, end_status}
 use Rattle.mm_main.specs.Contents.{full_name, doc_lines}
 use Rattle.mm_main.specs.Dumps.{IsAlone, IsTheDump}
 use Rattle.mm_main.specs.FirstFile.{IsFirstFile}
-use Rattle.mm_main.specs.Lines.{lines}
-use Rattle.mm_main.specs.Inserts.{AreInserts}
+use Rattle.mm_main.specs.Inserts.{collection_in, docs_of}
 use Rattle.mm_main.specs.Room.{stored}
-use Rattle.mm_main.specs.Script.{IsFirstOther, HaveForm, most_bytes}
+use Rattle.mm_main.specs.Script.{IsAnyPlayed, Refuses}
 use Rattle.mm_main.specs.Stored.{HasStored, Stores, MayHaveBegun, file_name}
 use Rattle.mm_main.specs.Streams.{Says, SaysSome}
 use Rattle.mm_main.specs.Texts.{refusal_text, present_text}
@@ -28,26 +29,6 @@ use Rattle.mm_main.specs.Top.{IsAmong, HasPlayed, Plays, SaysFault, OnlyAdds}
 use Rattle.mm_main.proofs.OneDump.{the_dump}
 use Rattle.mm_main.proofs.RunSteps.{begun_none}
 use Rattle.mm_main.proofs.StatusSteps.{none_of_two, none_of}
-
--- ---- a script has no line of another form
-
-inserts_front : (collection : List ℕ) (docs : List Elements) (ls : List (List ℕ)) (n : ℕ) → AreInserts collection docs ls → (some : List Elements) × AreInserts collection some (take n ls)
-inserts_front collection docs ls zero all = ([], tt)
-inserts_front collection [] [] (suc n) all = ([], tt)
-inserts_front collection [] (l ∷ ls) (suc n) all = absurd all
-inserts_front collection (d ∷ docs) [] (suc n) all = absurd all
-inserts_front collection (d ∷ docs) (l ∷ ls) (suc n) all =
-    let front = inserts_front collection docs ls n all.1 in
-    (d ∷ front.0, (all.0, front.1))
-
-pub script_or_other : (bytes : List ℕ) (line : ℕ) → IsAnyScript bytes → IsFirstOther line bytes → ⊥
-script_or_other bytes line any first = other_form first.other
-  where
-    other_form : (HaveForm (take line (lines bytes)) → ⊥) ⊎ ((most_bytes < length bytes) × (line ≡ length (lines bytes))) → ⊥
-    other_form (inl none) =
-        let front = inserts_front any.0 any.1 (lines bytes) line any.2.inserts in
-        none (any.0, front.0, front.1)
-    other_form (inr long) = omega (arith, any.2.short, long.0)
 
 -- ---- what is stored
 
@@ -86,63 +67,62 @@ says_as text same before after is said = subst (λ (bytes : List ℕ). Says byte
 
 played_by : (coming : Option (List ℕ)) (old new : Option Told) (before after : Option (List ℕ)) (end : End) → PlayEnds coming old new end → Says (end_text end) before after
     → end_status end ≡ status.Done → HasPlayed coming old new before after
-played_by coming old new before after (Refused line text) ends said done = absurd cc
+played_by coming old new before after (Refused line what text) ends said done = absurd cc
 played_by coming old new before after (Present name text) ends said done = absurd cc
 played_by coming old new before after (Played text) ends said done = record {
-  collection = ends.0;
-  docs = ends.1;
-  script = ends.2;
-  empty = ends.3.1;
-  stored = has_stored ends.0 ends.1 old new ends.3.2 ends.3.1;
+  actions = ends.0;
+  script = ends.1;
+  empty = ends.2.1;
+  stored = has_stored (collection_in ends.0) (docs_of ends.0) old new ends.2.2 ends.2.1;
   dumps = λ t is.
-      let after = has_stored ends.0 ends.1 old new ends.3.2 ends.3.1 t is in
-      (after.0, after.1, dump_of_stored ends.0 ends.1 after.0 after.2);
-  said = says_as _ _ before after ends.3.0 said;
+      let after = has_stored (collection_in ends.0) (docs_of ends.0) old new ends.2.2 ends.2.1 t is in
+      (after.0, after.1, dump_of_stored (collection_in ends.0) (docs_of ends.0) after.0 after.2);
+  said = says_as _ _ before after ends.2.0 said;
 }
 played_by coming old new before after SourceFailed ends said done = absurd cc
 played_by coming old new before after DiskFailed ends said done = absurd cc
 played_by coming old new before after NoMemory ends said done = absurd cc
 
 refused_by : (coming : Option (List ℕ)) (old new : Option Told) (before after : Option (List ℕ)) (end : End) → PlayEnds coming old new end → Says (end_text end) before after
-    → end_status end ≡ status.ScriptRefused → (line : ℕ) × IfComing coming (IsFirstOther line) × Says (refusal_text line) before after
-refused_by coming old new before after (Refused line text) ends said done = (line, ends.2, says_as _ _ before after ends.0 said)
+    → end_status end ≡ status.ScriptRefused → (line : ℕ) × (what : LineWhat) × IfComing coming (Refuses line what) × Says (refusal_text line what) before after
+refused_by coming old new before after (Refused line what text) ends said done = (line, what, ends.2, says_as _ _ before after ends.0 said)
 refused_by coming old new before after (Present name text) ends said done = absurd cc
 refused_by coming old new before after (Played text) ends said done = absurd cc
 refused_by coming old new before after SourceFailed ends said done = absurd cc
 refused_by coming old new before after DiskFailed ends said done = absurd cc
 refused_by coming old new before after NoMemory ends said done = absurd cc
 
-refused_exactly_by : (coming : Option (List ℕ)) (old new : Option Told) (end : End) → PlayEnds coming old new end → (bytes : List ℕ) (line : ℕ) → coming ≡ Some bytes
-    → IsFirstOther line (take (most_bytes + 1) bytes) → IsAmong (end_status end) (status.ScriptRefused ∷ status.SourceFault ∷ status.SinkFault ∷ status.NoMemory ∷ [])
-refused_exactly_by coming old new (Refused n text) ends bytes line is first = inl refl
-refused_exactly_by coming old new (Present name text) ends bytes line is first = absurd (script_or_other _ line (ends.0, ends.1, ends.2 bytes is) first)
-refused_exactly_by coming old new (Played text) ends bytes line is first = absurd (script_or_other _ line (ends.0, ends.1, ends.2 bytes is) first)
-refused_exactly_by coming old new SourceFailed ends bytes line is first = inr (inl refl)
-refused_exactly_by coming old new DiskFailed ends bytes line is first = absurd (script_or_other _ line (ends.0, ends.1, ends.2 bytes is) first)
-refused_exactly_by coming old new NoMemory ends bytes line is first = inr (inr (inr (inl refl)))
+refused_exactly_by : (coming : Option (List ℕ)) (old new : Option Told) (end : End) → PlayEnds coming old new end → (bytes : List ℕ) → coming ≡ Some bytes
+    → (IsAnyPlayed (take (most_bytes + 1) bytes) → ⊥) → IsAmong (end_status end) (status.ScriptRefused ∷ status.SourceFault ∷ status.SinkFault ∷ status.NoMemory ∷ [])
+refused_exactly_by coming old new (Refused line what text) ends bytes is none = inl refl
+refused_exactly_by coming old new (Present name text) ends bytes is none = absurd (none (ends.0, ends.1 bytes is))
+refused_exactly_by coming old new (Played text) ends bytes is none = absurd (none (ends.0, ends.1 bytes is))
+refused_exactly_by coming old new SourceFailed ends bytes is none = inr (inl refl)
+refused_exactly_by coming old new DiskFailed ends bytes is none = absurd (none (ends.0, ends.1 bytes is))
+refused_exactly_by coming old new NoMemory ends bytes is none = inr (inr (inr (inl refl)))
 
 present_exactly_by : (coming : Option (List ℕ)) (old new : Option Told) (end : End) → PlayEnds coming old new end → (bytes : List ℕ) (t : Told) (name : List ℕ) → coming ≡ Some bytes
-    → IsAnyScript (take (most_bytes + 1) bytes) → old ≡ Some t → IsFirstFile (Some name) (keys (image_of t))
+    → IsAnyPlayed (take (most_bytes + 1) bytes) → old ≡ Some t → IsFirstFile (Some name) (keys (image_of t))
     → IsAmong (end_status end) (status.FilesRefused ∷ status.DiskFault ∷ status.SourceFault ∷ status.SinkFault ∷ status.NoMemory ∷ [])
-present_exactly_by coming old new (Refused n text) ends bytes t name is any told first = absurd (script_or_other _ n any (ends.2 bytes is))
+present_exactly_by coming old new (Refused line what text) ends bytes t name is any told first = absurd ((ends.2 bytes is).none any)
 present_exactly_by coming old new (Present one text) ends bytes t name is any told first = inl refl
-present_exactly_by coming old new (Played text) ends bytes t name is any told first = absurd (cc (ends.3.1 t told, first.1))
+present_exactly_by coming old new (Played text) ends bytes t name is any told first = absurd (cc (ends.2.1 t told, first.1))
 present_exactly_by coming old new SourceFailed ends bytes t name is any told first = inr (inr (inl refl))
 present_exactly_by coming old new DiskFailed ends bytes t name is any told first = inr (inl refl)
 present_exactly_by coming old new NoMemory ends bytes t name is any told first = inr (inr (inr (inr (inl refl))))
 
 complete_by : (coming : Option (List ℕ)) (old new : Option Told) (end : End) → PlayEnds coming old new end → (bytes : List ℕ) (t : Told) → coming ≡ Some bytes
-    → IsAnyScript (take (most_bytes + 1) bytes) → old ≡ Some t → keys (image_of t) ≡ []
+    → IsAnyPlayed (take (most_bytes + 1) bytes) → old ≡ Some t → keys (image_of t) ≡ []
     → IsAmong (end_status end) (status.Done ∷ status.DiskFault ∷ status.SourceFault ∷ status.SinkFault ∷ status.NoMemory ∷ [])
-complete_by coming old new (Refused n text) ends bytes t is any told none = absurd (script_or_other _ n any (ends.2 bytes is))
-complete_by coming old new (Present one text) ends bytes t is any told none = absurd (cc (none, (ends.3.2 t told).1))
+complete_by coming old new (Refused line what text) ends bytes t is any told none = absurd ((ends.2 bytes is).none any)
+complete_by coming old new (Present one text) ends bytes t is any told none = absurd (cc (none, (ends.2.2 t told).1))
 complete_by coming old new (Played text) ends bytes t is any told none = inl refl
 complete_by coming old new SourceFailed ends bytes t is any told none = inr (inr (inl refl))
 complete_by coming old new DiskFailed ends bytes t is any told none = inr (inl refl)
 complete_by coming old new NoMemory ends bytes t is any told none = inr (inr (inr (inr (inl refl))))
 
 among_by : (end : End) → IsAmong (end_status end) (status.Done ∷ status.ScriptRefused ∷ status.DiskFault ∷ status.SourceFault ∷ status.SinkFault ∷ status.NoMemory ∷ status.FilesRefused ∷ [])
-among_by (Refused line text) = inr (inl refl)
+among_by (Refused line what text) = inr (inl refl)
 among_by (Present name text) = inr (inr (inr (inr (inr (inr (inl refl))))))
 among_by (Played text) = inl refl
 among_by SourceFailed = inr (inr (inr (inl refl)))
@@ -150,24 +130,24 @@ among_by DiskFailed = inr (inr (inl refl))
 among_by NoMemory = inr (inr (inr (inr (inr (inl refl)))))
 
 begun_by : (coming : Option (List ℕ)) (old new : Option Told) (end : End) → PlayEnds coming old new end → MayHaveBegun old new
-begun_by coming old new (Refused line text) ends = begun_none old new ends.1
-begun_by coming old new (Present name text) ends = begun_none old new ends.3.1
-begun_by coming old new (Played text) ends = begun_stores ends.0 ends.1 old new ends.3.2
+begun_by coming old new (Refused line what text) ends = begun_none old new ends.1
+begun_by coming old new (Present name text) ends = begun_none old new ends.2.1
+begun_by coming old new (Played text) ends = begun_stores (collection_in ends.0) (docs_of ends.0) old new ends.2.2
 begun_by coming old new SourceFailed ends = begun_none old new ends
-begun_by coming old new DiskFailed ends = ends.3
+begun_by coming old new DiskFailed ends = ends.2
 begun_by coming old new NoMemory ends = ends
 
 present_by : (coming : Option (List ℕ)) (old new : Option Told) (before after : Option (List ℕ)) (end : End) → PlayEnds coming old new end → Says (end_text end) before after
-    → end_status end ≡ status.FilesRefused → IfComing coming IsAnyScript × (name : List ℕ) × IfTold old (λ t. IsFirstFile (Some name) (keys (image_of t))) × Says (present_text name) before after
-present_by coming old new before after (Refused line text) ends said is = absurd cc
-present_by coming old new before after (Present name text) ends said is = ((λ bytes tells. (ends.0, ends.1, ends.2 bytes tells)), string_bytes name, ends.3.2, says_as _ _ before after ends.3.0 said)
+    → end_status end ≡ status.FilesRefused → IfComing coming IsAnyPlayed × (name : List ℕ) × IfTold old (λ t. IsFirstFile (Some name) (keys (image_of t))) × Says (present_text name) before after
+present_by coming old new before after (Refused line what text) ends said is = absurd cc
+present_by coming old new before after (Present name text) ends said is = ((λ bytes tells. (ends.0, ends.1 bytes tells)), string_bytes name, ends.2.2, says_as _ _ before after ends.2.0 said)
 present_by coming old new before after (Played text) ends said is = absurd cc
 present_by coming old new before after SourceFailed ends said is = absurd cc
 present_by coming old new before after DiskFailed ends said is = absurd cc
 present_by coming old new before after NoMemory ends said is = absurd cc
 
 fault_by : (before after : Option (List ℕ)) (end : End) → Says (end_text end) before after → SaysFault (end_status end) before after
-fault_by before after (Refused line text) said = tt
+fault_by before after (Refused line what text) said = tt
 fault_by before after (Present name text) said = tt
 fault_by before after (Played text) said = tt
 fault_by before after SourceFailed said = said
@@ -175,8 +155,8 @@ fault_by before after DiskFailed said = said
 fault_by before after NoMemory said = said
 
 kept_by : (coming : Option (List ℕ)) (old new : Option Told) (end : End) → PlayEnds coming old new end → IsAmong (end_status end) (status.ScriptRefused ∷ status.SourceFault ∷ status.FilesRefused ∷ []) → new ≡ old
-kept_by coming old new (Refused line text) ends among = ends.1
-kept_by coming old new (Present name text) ends among = ends.3.1
+kept_by coming old new (Refused line what text) ends among = ends.1
+kept_by coming old new (Present name text) ends among = ends.2.1
 kept_by coming old new (Played text) ends among = absurd (none_of status.Done status.ScriptRefused status.SourceFault status.FilesRefused (λ e. cc) (λ e. cc) (λ e. cc) among)
 kept_by coming old new SourceFailed ends among = ends
 kept_by coming old new DiskFailed ends among = absurd (none_of status.DiskFault status.ScriptRefused status.SourceFault status.FilesRefused (λ e. cc) (λ e. cc) (λ e. cc) among)
@@ -204,7 +184,7 @@ plays_unsaid coming old new before after end ends = record {
   among = inr (inr (inr (inr (inl refl))));
   played = λ is. absurd cc;
   refused = λ is. absurd cc;
-  refused_exactly = λ bytes line tells first. inr (inr (inl refl));
+  refused_exactly = λ bytes tells none. inr (inr (inl refl));
   present = λ is. absurd cc;
   present_exactly = λ bytes t name tells any told first. inr (inr (inr (inl refl)));
   complete = λ bytes t tells any told none. inr (inr (inr (inl refl)));
@@ -214,7 +194,7 @@ plays_unsaid coming old new before after end ends = record {
 }
 
 pub unasked_by : {D : Type 0} (end : End) (old new : D) → IsUnasked end old new → IsAmong (end_status end) (status.ScriptRefused ∷ status.SourceFault ∷ []) → new ≡ old
-unasked_by (Refused line text) old new unasked among = unasked
+unasked_by (Refused line what text) old new unasked among = unasked
 unasked_by (Present name text) old new unasked among = absurd (none_of_two status.FilesRefused status.ScriptRefused status.SourceFault (λ e. cc) (λ e. cc) among)
 unasked_by (Played text) old new unasked among = absurd (none_of_two status.Done status.ScriptRefused status.SourceFault (λ e. cc) (λ e. cc) among)
 unasked_by SourceFailed old new unasked among = unasked

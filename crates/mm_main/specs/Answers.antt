@@ -1,6 +1,8 @@
 -- The text of what is answered.
-use Rattle.std.specs.Prelude.{ℕ, ◌+◌, List, [], ◌∷◌, ◌++◌, codes}
+use Rattle.std.specs.Prelude.{ℕ, List, [], ◌∷◌, ◌++◌, codes}
 use Rattle.std.specs.Fmt.{decimal}
+use Rattle.mm_model.specs.declared.action.Action.{Action}
+use Rattle.mm_script.specs.Render.{line_of}
 use Rattle.mm_main.specs.declared.answers.Reply.{Reply}
 use Rattle.mm_main.specs.declared.answers.Reply.TheVariants.{Done, NoSpace}
 
@@ -9,7 +11,8 @@ abbrev pub reply_text : Reply → List ℕ
 reply_text Done = codes " ok 1\n"
 reply_text NoSpace = codes " NoSpace\n"
 
--- a line for each reply, from this number on
-abbrev pub reply_lines : ℕ → List Reply → List ℕ
-reply_lines number [] = []
-reply_lines number (reply ∷ replies) = decimal number ++ (reply_text reply ++ reply_lines (number + 1) replies)
+-- a line for each reply to an action, with the number of the action's line
+abbrev pub reply_lines : List Action → List Reply → List ℕ
+reply_lines [] replies = []
+reply_lines (action ∷ actions) [] = []
+reply_lines (action ∷ actions) (reply ∷ replies) = decimal (line_of action) ++ (reply_text reply ++ reply_lines actions replies)

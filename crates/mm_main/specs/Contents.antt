@@ -1,11 +1,12 @@
 -- What a data file without a finding holds, and what a dump prints of it.
 use Rattle.std.specs.Prelude.{◌≡◌, ℕ, ◌<◌, List, [], ◌∷◌, ◌++◌, length, map, codes, Option, Some, None}
-use Rattle.hex.specs.Hex.{encode_lower}
+use Rattle.mm_bson.specs.Built.{IsBuilt}
 use Rattle.mm_bson.specs.Tree.{Elements}
 use Rattle.mm_bson.specs.Spelling.{IsDocument, spelling}
+use Rattle.mm_notation.specs.Written.{written}
 use Rattle.mm_main.specs.declared.reading.Contents.{Contents}
 use Rattle.mm_main.specs.DataFile.{IsFile}
-use Rattle.mm_main.specs.Inserts.{IsCollection}
+use Rattle.mm_main.specs.Collections.{IsCollection}
 
 abbrev pub AreDocuments : List Elements → Type 0
 AreDocuments [] = Unit {0}
@@ -17,9 +18,14 @@ pub record HoldsDocs (collection : List ℕ) (docs : List Elements) (file : List
   pub documents : AreDocuments docs
   pub name : 0 < length docs → IsCollection collection
 
--- these are documents that the collection may hold
+-- documents in memory, which may be too long for a file
+abbrev pub AreBuilt : List Elements → Type 0
+AreBuilt [] = Unit {0}
+AreBuilt (doc ∷ docs) = IsBuilt doc × AreBuilt docs
+
+-- these are documents that the collection may hold, where they find room
 pub record AreDocsOf (collection : List ℕ) (docs : List Elements) : Type 0 where
-  pub documents : AreDocuments docs
+  pub documents : AreBuilt docs
   pub name : 0 < length docs → IsCollection collection
 
 -- the full name of a collection of the database `test`
@@ -35,9 +41,9 @@ Tells collection docs (Some contents) = (contents.namespace ≡ full_name collec
 abbrev pub IsRead : List ℕ → Option Contents → Type 0
 IsRead file contents = (collection : List ℕ) × (docs : List Elements) × HoldsDocs collection docs file × Tells collection docs contents
 
--- the line of a document: its collection's full name, and its bytes in lower case
+-- the line of a document: its collection's full name, and its written form
 abbrev pub doc_line : List ℕ → Elements → List ℕ
-doc_line name doc = name ++ (codes " hex:" ++ (encode_lower (spelling doc) ++ codes "\n"))
+doc_line name doc = name ++ (codes " " ++ (written doc ++ codes "\n"))
 
 abbrev pub doc_lines : List ℕ → List Elements → List ℕ
 doc_lines name [] = []

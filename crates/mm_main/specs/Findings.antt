@@ -19,7 +19,7 @@ use Rattle.mm_main.specs.declared.finding.What.TheVariants.{File, Extent, Chain,
 use Rattle.mm_main.specs.declared.finding.Unreadable.{Unreadable}
 use Rattle.mm_main.specs.declared.finding.Unreadable.TheVariants.{Found, NoMemory}
 use Rattle.mm_main.specs.DataFile.{at_file_0, extent_with, linked, HasFileHeader, IsRest}
-use Rattle.mm_main.specs.Inserts.{IsCollection}
+use Rattle.mm_main.specs.Collections.{IsCollection}
 use Rattle.mm_main.specs.Room.{file_len, extent_at, first_at, request, block_len}
 
 -- ---- the headers

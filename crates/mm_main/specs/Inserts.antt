@@ -1,40 +1,50 @@
--- The lines of a script. Each inserts a document into one collection of the database `test`.
-use Rattle.std.specs.Prelude.{◌≡◌, ℕ, ◌≤◌, ◌||◌, ◌&&◌, ◌==◌, nat_le, nat_eq, Bool, false, List, [], ◌∷◌, ◌++◌, length, codes, Ok}
-use Rattle.std.specs.List.{AllPass, starts_with}
-use Rattle.hex.specs.Hex.{decode_of}
-use Rattle.mm_bson.specs.Tree.{Elements}
-use Rattle.mm_bson.specs.Spelling.{IsDocument, spelling}
+-- The actions that are played: inserts into one collection, none of which waits for its group's sync.
+use Rattle.std.specs.Prelude.{◌≡◌, ℕ, ◌<◌, false, if◌then◌else◌, List, [], ◌∷◌, ◌⊎◌, length, map, Option, Some, None}
+use Rattle.std.specs.Str.{bytes_eq}
+use Rattle.mm_bson.specs.Tree.{Elements, no_elements}
+use Rattle.mm_model.specs.declared.action.Action.{Action}
+use Rattle.mm_model.specs.declared.action.Action.TheVariants.{Run}
+use Rattle.mm_model.specs.declared.command.Command.TheVariants.{Insert}
+use Rattle.mm_script.specs.declared.fault.LineWhat.{LineWhat}
+use Rattle.mm_script.specs.declared.fault.LineWhat.TheVariants.{Verb, Word, Step}
+use Rattle.mm_script.specs.Render.{line_of}
+use Rattle.mm_main.specs.Collections.{IsCollection}
 
--- a letter, a digit, `_` or `.`
-abbrev pub is_name_byte : ℕ → Bool
-is_name_byte b = (nat_le 97 b && nat_le b 122) || ((nat_le 65 b && nat_le b 90) || ((nat_le 48 b && nat_le b 57) || (b == 95 || b == 46)))
+-- the action inserts a document into the collection
+abbrev pub IsInsert : List ℕ → Action → Type 0
+IsInsert collection (Run line session db (Insert coll doc) j) = (coll ≡ collection) × (j ≡ false)
+IsInsert collection _ = ⊥
 
--- a collection's name: 1 to 60 letters, digits, `_` and `.`, which don't begin with `system.`
-pub record IsCollection (name : List ℕ) : Type 0 where
-  pub some : 1 ≤ length name
-  pub short : length name ≤ 60
-  pub bytes : AllPass is_name_byte name
-  pub no_system : starts_with nat_eq name (codes "system.") ≡ false
+abbrev pub AreInserts : List ℕ → List Action → Type 0
+AreInserts collection [] = Unit {0}
+AreInserts collection (action ∷ actions) = IsInsert collection action × AreInserts collection actions
 
--- the line, of which the last word holds these digits
-abbrev pub line_of : List ℕ → List ℕ → List ℕ
-line_of collection digits = codes "1 test insert " ++ (collection ++ (codes " hex:" ++ digits))
+-- the document that an action inserts, and those of some actions
+abbrev pub doc_of : Action → Elements
+doc_of (Run line session db (Insert coll doc) j) = doc
+doc_of _ = no_elements
 
--- the digits, in either case, spell a document
-pub record SpellsInHex (doc : Elements) (digits : List ℕ) : Type 0 where
-  pub decoded : decode_of digits ≡ Ok (spelling doc)
-  pub document : IsDocument doc
+abbrev pub docs_of : List Action → List Elements
+docs_of actions = map doc_of actions
 
--- the line inserts the document into the collection
-pub record IsInsert (collection : List ℕ) (doc : Elements) (line : List ℕ) : Type 0 where
-  pub name : IsCollection collection
-  pub digits : List ℕ
-  pub words : line ≡ line_of collection digits
-  pub spells : SpellsInHex doc digits
+-- the collection into which the first action inserts
+abbrev pub collection_in : List Action → List ℕ
+collection_in (Run line session db (Insert coll doc) j ∷ actions) = coll
+collection_in _ = []
 
--- the lines insert these documents, in order
-abbrev pub AreInserts : List ℕ → List Elements → List (List ℕ) → Type 0
-AreInserts collection [] [] = Unit {0}
-AreInserts collection (doc ∷ docs) (line ∷ lines) = IsInsert collection doc line × AreInserts collection docs lines
-AreInserts collection [] (line ∷ lines) = ⊥
-AreInserts collection (doc ∷ docs) [] = ⊥
+-- all of the actions insert into one collection, which has a collection's name
+pub record ArePlayed (actions : List Action) : Type 0 where
+  pub inserts : AreInserts (collection_in actions) actions
+  pub name : 0 < length actions → IsCollection (collection_in actions)
+
+-- What of an action isn't played, from the left: its verb, or its collection, which isn't the one; or a `j` behind it.
+abbrev pub unplayed : List ℕ → Action → Option LineWhat
+unplayed collection (Run line session db (Insert coll doc) j) = if bytes_eq coll collection then (if j then Some Word else None) else Some Verb
+unplayed collection (Run line session db command j) = Some Verb
+unplayed collection _ = Some Step
+
+-- The first of the actions that isn't played stands on line n, and this of it isn't.
+abbrev pub IsFirstUnplayed : List ℕ → ℕ → LineWhat → List Action → Type 0
+IsFirstUnplayed collection n what [] = ⊥
+IsFirstUnplayed collection n what (action ∷ actions) =
+    ((unplayed collection action ≡ Some what) × (n ≡ line_of action)) ⊎ ((unplayed collection action ≡ None) × IsFirstUnplayed collection n what actions)

@@ -1,5 +1,6 @@
 pub mod Answers
 pub mod Codes
+pub mod Collections
 pub mod Contents
 pub mod DataFile
 pub mod Drafted
@@ -8,7 +9,6 @@ pub mod Ends
 pub mod Findings
 pub mod FirstFile
 pub mod Inserts
-pub mod Lines
 pub mod Live
 pub mod Opening
 pub mod Room

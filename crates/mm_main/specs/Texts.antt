@@ -1,6 +1,8 @@
 -- The texts of a run that isn't begun, of one that failed, and of a data file with a finding.
 use Rattle.std.specs.Prelude.{ℕ, List, ◌++◌, codes}
 use Rattle.std.specs.Fmt.{decimal}
+use Rattle.mm_script.specs.declared.fault.LineWhat.{LineWhat}
+use Rattle.mm_script.specs.Texts.{what_text}
 use Rattle.mm_main.specs.declared.finding.What.{What}
 use Rattle.mm_main.specs.declared.finding.What.TheVariants.{File, Extent, Chain, Tiling, Document}
 
@@ -18,9 +20,9 @@ source_fault_text = codes "source fault\n"
 abbrev pub no_memory_text : List ℕ
 no_memory_text = codes "no memory\n"
 
--- a script's line is the first of another form
-abbrev pub refusal_text : ℕ → List ℕ
-refusal_text line = codes "line " ++ (decimal line ++ codes ": form\n")
+-- a line of a script is refused
+abbrev pub refusal_text : ℕ → LineWhat → List ℕ
+refusal_text line what = codes "line " ++ (decimal line ++ (codes ": " ++ (what_text what ++ codes "\n")))
 
 -- a file is there
 abbrev pub present_text : List ℕ → List ℕ

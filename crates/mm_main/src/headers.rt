@@ -7,14 +7,14 @@ ghost use Rattle.mm_base.specs.declared.place.DiskLoc.{DiskLoc};
 ghost use Rattle.mm_frames.specs.ExtentHeader.{extent_header_of, extent_header_table};
 ghost use Rattle.mm_main.specs.Room.{file_len, extent_at, extent_len};
 ghost use Rattle.mm_main.specs.DataFile.{at_file_0, namespace_of, HasFileHeader};
-ghost use Rattle.mm_main.specs.Inserts.{IsCollection};
+ghost use Rattle.mm_main.specs.Collections.{IsCollection};
 ghost use Rattle.mm_main.specs.Findings.{IsHeaded, IsOpened, extent_linking};
 ghost use Rattle.mm_main.specs.Contents.{full_name};
 ghost use Rattle.mm_main.specs.Opening.{HasConstants, HasNumbers};
 
 use crate::answers::{EXTENT_AT, FILE_LEN};
+use crate::collections::{behind, is_collection};
 use crate::file::{EXTENT_LEN, VERSION, VERSION_MINOR};
-use crate::inserts::{behind, is_collection};
 use mm_base::{DiskLoc, Name, is_zero};
 use mm_frames::{
     EXTENT_MAGIC, ExtentHeader, FILE_HEADER_LEN, FileHeader, read_extent_header, read_file_header,

@@ -1,11 +1,12 @@
 // The command `play`: a script is read, its documents are stored, its lines are answered.
-ghost use Rattle.std.specs.Prelude.{◌≡◌, ◌≤◌, [], ◌∷◌, length, map, IfOk, OnOk, string_bytes};
+ghost use Rattle.std.specs.Prelude.{◌≡◌, ◌≤◌, [], ◌∷◌, map, IfOk, OnOk, string_bytes};
 ghost use Rattle.mm_outside.specs.declared.disk.Device.TheVariants.{Fault};
 ghost use Rattle.mm_outside.specs.Fault.{HasCause, Rose};
 ghost use Rattle.mm_bson.specs.Spelling.{spelling};
 ghost use Rattle.mm_main.specs.Answers.{reply_lines};
-ghost use Rattle.mm_main.specs.Contents.{AreDocsOf, HoldsDocs};
+ghost use Rattle.mm_main.specs.Contents.{HoldsDocs};
 ghost use Rattle.mm_main.specs.Ends.{ScriptEnds, PlayEnds, IsRefusal, IsUnasked, end_text, end_status};
+ghost use Rattle.mm_main.specs.Inserts.{ArePlayed, collection_in as first_collection, docs_of};
 ghost use Rattle.mm_main.specs.Live.{HasLive};
 ghost use Rattle.mm_main.specs.Room.{replies_of, stored};
 ghost use Rattle.mm_main.specs.Stored.{Stores, MayHaveBegun};
@@ -14,20 +15,31 @@ ghost use Rattle.mm_main.specs.Top.{IsAmong, Plays, OnlyAdds};
 use crate::disk::{FILE_NAME, first_file, write_file};
 use crate::input::{InputFault, read_all};
 use crate::output::print;
-use crate::script::{Script, ScriptFault, read_script};
+use crate::script::{collection_in, read_script};
 use crate::status::Status;
 use crate::store::file_docs;
 use crate::text::{disk_fault, no_memory, presence, refusal, replies_text, source_fault};
 use mm_base::NoMemory;
+use mm_model::Action;
 use mm_outside::{Device, Disk, Sink, SinkFault, Source};
+use mm_script::{LineWhat, ScriptFault};
 use std::alloc::Global;
 
 /// What playing came to, with what it says.
 #[derive(Drop)]
 pub enum End {
-    Refused { line: u64, text: String },
-    Present { name: String, text: String },
-    Played { text: String },
+    Refused {
+        line: u32,
+        what: LineWhat,
+        text: String,
+    },
+    Present {
+        name: String,
+        text: String,
+    },
+    Played {
+        text: String,
+    },
     SourceFailed,
     DiskFailed,
     NoMemory,
@@ -39,8 +51,8 @@ impl End {
         ensures { result.now ≡ end_text self.now }
     {
         match self {
-            End::Refused { line: _, text } => text.as_str(),
-            End::Present { name: _, text } => text.as_str(),
+            End::Refused { text, .. } => text.as_str(),
+            End::Present { text, .. } => text.as_str(),
             End::Played { text } => text.as_str(),
             End::SourceFailed => source_fault(),
             End::DiskFailed => disk_fault(),
@@ -71,15 +83,14 @@ struct Prepared {
 }
 
 // Answers a script's lines.
-fn prepare(alloc: Global, script: &Script<'_>) -> Result<Prepared, NoMemory>
-    requires short { length script.now.collection.now ≤ 60 }
-    requires docs { AreDocsOf script.now.collection.now script.now.docs.items }
-    ensures text { IfOk result (λ done. string_bytes done.text ≡ reply_lines 1 (replies_of script.now.docs.items)) }
-    ensures holds { IfOk result (λ done. HoldsDocs script.now.collection.now (stored script.now.docs.items) done.file.items) }
-    ensures live { IfOk result (λ done. HasLive done.file.items (map spelling (stored script.now.docs.items))) }
+fn prepare(alloc: Global, actions: &[Action]) -> Result<Prepared, NoMemory>
+    requires { ArePlayed actions.now }
+    ensures text { IfOk result (λ done. string_bytes done.text ≡ reply_lines actions.now (replies_of (docs_of actions.now))) }
+    ensures holds { IfOk result (λ done. HoldsDocs (first_collection actions.now) (stored (docs_of actions.now)) done.file.items) }
+    ensures live { IfOk result (λ done. HasLive done.file.items (map spelling (stored (docs_of actions.now)))) }
 {
-    let filed = file_docs(alloc, script.collection, &script.docs)?;
-    let text = replies_text(alloc, &filed.replies)?;
+    let filed = file_docs(alloc, collection_in(actions), actions)?;
+    let text = replies_text(alloc, actions, &filed.replies)?;
     Ok(Prepared {
         file: filed.file,
         text,
@@ -87,15 +98,14 @@ fn prepare(alloc: Global, script: &Script<'_>) -> Result<Prepared, NoMemory>
 }
 
 // Stores a script's documents on a disk without files, and answers its lines.
-fn store<D: Disk>(alloc: Global, script: &Script<'_>, disk: &mut D) -> Result<String, Device>
-    requires short { length script.now.collection.now ≤ 60 }
-    requires docs { AreDocsOf script.now.collection.now script.now.docs.items }
-    ensures text { IfOk result (λ text. string_bytes text ≡ reply_lines 1 (replies_of script.now.docs.items)) }
-    ensures stores { OnOk result (Stores script.now.collection.now script.now.docs.items (D.told disk.old) (D.told disk.new)) }
+fn store<D: Disk>(alloc: Global, actions: &[Action], disk: &mut D) -> Result<String, Device>
+    requires { ArePlayed actions.now }
+    ensures text { IfOk result (λ text. string_bytes text ≡ reply_lines actions.now (replies_of (docs_of actions.now))) }
+    ensures stores { OnOk result (Stores (first_collection actions.now) (docs_of actions.now) (D.told disk.old) (D.told disk.new)) }
     ensures began { MayHaveBegun (D.told disk.old) (D.told disk.new) }
     ensures cause { HasCause Fault (D.faults disk.old) (D.faults disk.new) result }
 {
-    let done = match prepare(alloc, script) {
+    let done = match prepare(alloc, actions) {
         Ok(done) => done,
         Err(NoMemory) => return Err(Device::NoMemory),
     };
@@ -104,10 +114,9 @@ fn store<D: Disk>(alloc: Global, script: &Script<'_>, disk: &mut D) -> Result<St
 }
 
 // Plays a script, unless a file is there.
-fn play<D: Disk>(alloc: Global, script: &Script<'_>, disk: &mut D) -> End
-    requires short { length script.now.collection.now ≤ 60 }
-    requires docs { AreDocsOf script.now.collection.now script.now.docs.items }
-    ensures ends { ScriptEnds script.now.collection.now script.now.docs.items (D.told disk.old) (D.told disk.new) result }
+fn play<D: Disk>(alloc: Global, actions: &[Action], disk: &mut D) -> End
+    requires { ArePlayed actions.now }
+    ensures ends { ScriptEnds actions.now (D.told disk.old) (D.told disk.new) result }
     ensures later { D.faults disk.old ≤ D.faults disk.new }
     ensures cause { result ≡ End.DiskFailed → Rose (D.faults disk.old) (D.faults disk.new) }
 {
@@ -122,7 +131,7 @@ fn play<D: Disk>(alloc: Global, script: &Script<'_>, disk: &mut D) -> End
         Err(Device::Fault) => return End::DiskFailed,
         Err(Device::NoMemory) => return End::NoMemory,
     }
-    match store(alloc, script, disk) {
+    match store(alloc, actions, disk) {
         Ok(text) => End::Played { text },
         Err(Device::Fault) => End::DiskFailed,
         Err(Device::NoMemory) => End::NoMemory,
@@ -130,11 +139,11 @@ fn play<D: Disk>(alloc: Global, script: &Script<'_>, disk: &mut D) -> End
 }
 
 // A script is refused.
-fn refused(alloc: Global, line: u64) -> End
-    ensures { IsRefusal line result }
+fn refused(alloc: Global, line: u32, what: LineWhat) -> End
+    ensures { IsRefusal line what result }
 {
-    match refusal(alloc, line) {
-        Ok(text) => End::Refused { line, text },
+    match refusal(alloc, line, what) {
+        Ok(text) => End::Refused { line, what, text },
         Err(NoMemory) => End::NoMemory,
     }
 }
@@ -154,9 +163,9 @@ fn play_script<D: Disk, S: Source>(alloc: Global, source: &mut S, disk: &mut D) 
         Err(InputFault::NoMemory) => return End::NoMemory,
     };
     match read_script(alloc, &bytes) {
-        Ok(script) => play(alloc, &script, disk),
-        Err(ScriptFault::Form { line }) => refused(alloc, line),
-        Err(ScriptFault::OutOfMemory) => End::NoMemory,
+        Ok(script) => play(alloc, script.actions(), disk),
+        Err(ScriptFault::Line { number, what }) => refused(alloc, number, what),
+        Err(ScriptFault::NoMemory) => End::NoMemory,
     }
 }
 

@@ -1,101 +1,131 @@
-// A script, read whole.
-ghost use Rattle.std.specs.Prelude.{◌≡◌, ◌<◌, ◌≤◌, ◌+◌, length, false, IsTrue, IfOk};
-ghost use Rattle.mm_main.specs.declared.script.ScriptFault.TheVariants.{OutOfMemory};
-ghost use Rattle.mm_main.specs.Script.{most_bytes, IsScript, IsCollectionOf, IfForm, IsFirstOther};
+// A script of inserts into one collection.
+ghost use Rattle.std.specs.Prelude.{◌≡◌, ℕ, List, codes, Some, None, IfOk, IfSome, IfNone, if◌then◌else◌};
+ghost use Rattle.std.specs.Str.{bytes_eq};
+ghost use Rattle.mm_script.specs.Render.{line_of as number_of};
+ghost use Rattle.mm_script.specs.Script.{IfLine};
+ghost use Rattle.mm_main.specs.Inserts.{IsInsert, AreInserts, IsFirstUnplayed, unplayed as unplayed_of, doc_of as document_of, collection_in as first_collection};
+ghost use Rattle.mm_main.specs.Script.{IsPlayed, Refuses};
 
-use crate::inserts::{LONGEST_NAME, collection_of, insert_of};
-use crate::lines::first_line;
-use mm_base::NoMemory;
+use mm_base::Name;
 use mm_bson::Doc;
-use std::alloc::{AllocFailed, Global};
+use mm_model::{Action, Command};
+use mm_script::{LineWhat, Script, ScriptFault};
+use std::alloc::Global;
 
-/// The most bytes of a script.
-pub const MOST_BYTES: usize = 67_108_864;
+/// The stamp of made `_id`s, in seconds.
+const STAMP: u32 = 1_400_000_000;
 
-/// Documents to be inserted into one collection, in the order of their lines.
-#[derive(Drop)]
-pub struct Script<'a> {
-    pub collection: &'a [u8],
-    pub docs: Vec<Doc>,
-}
-
-/// Why a script is refused.
-#[derive(Clone, Copy, Debug, PartialEq, Eq)]
-pub enum ScriptFault {
-    /// This line is the first of another form. Lines are counted from 1.
-    Form { line: u64 },
-    OutOfMemory,
-}
-
-impl From<NoMemory> for ScriptFault {
-    ghost from_gives = { λ _ e. e ≡ OutOfMemory };
-
-    fn from(_error: NoMemory) -> ScriptFault {
-        ScriptFault::OutOfMemory
+// The name of the one database.
+fn database() -> Name
+    ensures { result ≡ codes "test" }
+{
+    match Name::new(b"test") {
+        Some(name) => name,
+        None => unreachable!(),
     }
 }
 
-impl<T: Drop> From<AllocFailed<T>> for ScriptFault {
-    ghost from_gives = { λ _ e. e ≡ OutOfMemory };
-
-    fn from(_error: AllocFailed<T>) -> ScriptFault {
-        ScriptFault::OutOfMemory
+/// The line on which an action stands.
+pub fn line_of(action: &Action) -> u32
+    ensures { result ≡ number_of action.now }
+{
+    match action {
+        Action::Run { line, .. }
+        | Action::Close { line }
+        | Action::Log { line }
+        | Action::Apply { line }
+        | Action::Remap { line }
+        | Action::Commit { line }
+        | Action::Flush { line, .. }
+        | Action::Sync { line }
+        | Action::Lsn { line }
+        | Action::Trim { line } => *line,
     }
 }
 
-// The collection into which the first line inserts.
-fn collection_in(bytes: &[u8]) -> &[u8]
-    ensures one { IsCollectionOf result.now bytes.now }
-    ensures short { length result.now ≤ LONGEST_NAME }
+/// The document that an action inserts.
+pub fn doc_of(action: &Action) -> &Doc
+    requires { (collection : List ℕ) × IsInsert collection action.now }
+    ensures { result.now ≡ document_of action.now }
 {
-    if bytes.is_empty() {
-        return bytes;
+    match action {
+        Action::Run {
+            command: Command::Insert { doc, .. },
+            ..
+        } => doc,
+        _ => unreachable!(),
     }
-    let (line, _others) = first_line(bytes);
-    collection_of(line)
 }
 
-// Whether the line before these bytes is the last, and there are more bytes than a script has.
-fn holds_too_much(bytes: &[u8], after: &[u8]) -> bool
-    ensures too_much { IsTrue result → (length after.now ≡ 0) × (most_bytes < length bytes.now) }
-    ensures fits { result ≡ false → length after.now ≡ 0 → length bytes.now ≤ most_bytes }
+/// The collection into which the first action inserts.
+pub fn collection_in(actions: &[Action]) -> &[u8]
+    ensures { result.now ≡ first_collection actions.now }
 {
-    after.is_empty() && MOST_BYTES < bytes.len()
+    match actions {
+        [
+            Action::Run {
+                command: Command::Insert { coll, .. },
+                ..
+            },
+            ..
+        ] => coll.bytes(),
+        _ => &[],
+    }
 }
 
-// The documents of the lines, each of them for this collection.
-fn docs_in(alloc: Global, collection: &[u8], bytes: &[u8]) -> Result<Vec<Doc>, ScriptFault>
-    requires short { length bytes.now ≤ most_bytes + 1 }
-    requires one { IsCollectionOf collection.now bytes.now }
-    ensures script { IfOk result (λ docs. IsScript collection.now docs.items bytes.now) }
-    ensures other { IfForm result (λ line. IsFirstOther line bytes.now) }
+// What of an insert isn't played: another collection, or a final `j`.
+fn unplayed_insert(collection: &[u8], coll: &Name, j: bool) -> Option<LineWhat>
+    ensures { result ≡ (if bytes_eq coll.now collection.now then (if j then Some LineWhat.Word else None) else Some LineWhat.Verb) }
 {
-    let mut docs = Vec::new(alloc);
-    let mut rest = bytes;
-    'lines: while !rest.is_empty() {
-        let (line, after) = first_line(rest);
-        let number = docs.len() as u64 + 1;
-        if holds_too_much(bytes, after) {
-            return Err(ScriptFault::Form { line: number });
+    if coll.bytes() != collection {
+        return Some(LineWhat::Verb);
+    }
+    if j {
+        return Some(LineWhat::Word);
+    }
+    None
+}
+
+// What of an action isn't played.
+fn unplayed(collection: &[u8], action: &Action) -> Option<LineWhat>
+    ensures { result ≡ unplayed_of collection.now action.now }
+{
+    match action {
+        Action::Run {
+            command: Command::Insert { coll, .. },
+            j,
+            ..
+        } => unplayed_insert(collection, coll, *j),
+        Action::Run { .. } => Some(LineWhat::Verb),
+        _ => Some(LineWhat::Step),
+    }
+}
+
+// The line of the first action that isn't played, and what of it isn't.
+fn first_unplayed(actions: &[Action]) -> Option<(u32, LineWhat)>
+    ensures some { IfSome result (λ found. IsFirstUnplayed (first_collection actions.now) found.0 found.1 actions.now) }
+    ensures none { IfNone result (AreInserts (first_collection actions.now) actions.now) }
+{
+    let collection = collection_in(actions);
+    for action in actions {
+        if let Some(what) = unplayed(collection, action) {
+            return Some((line_of(action), what));
         }
-        let found = insert_of(alloc, collection, line)?;
-        let Some(doc) = found else {
-            return Err(ScriptFault::Form { line: number });
-        };
-        docs.push(doc)?;
-        rest = after;
     }
-    Ok(docs)
+    None
 }
 
-/// Reads a script. The bytes are all of it, or the most bytes of a script and one more.
-pub fn read_script(alloc: Global, bytes: &[u8]) -> Result<Script<'_>, ScriptFault>
-    requires { length bytes.now ≤ most_bytes + 1 }
-    ensures short { IfOk result (λ script. length script.collection.now ≤ LONGEST_NAME) }
-    ensures script { IfOk result (λ script. IsScript script.collection.now script.docs.items bytes.now) }
-    ensures other { IfForm result (λ line. IsFirstOther line bytes.now) }
+/// Reads a script whose lines all insert into one collection.
+pub fn read_script(alloc: Global, bytes: &[u8]) -> Result<Script, ScriptFault>
+    ensures script { IfOk result (λ script. IsPlayed script bytes.now) }
+    ensures refused { IfLine result (λ number what. Refuses number what bytes.now) }
 {
-    let collection = collection_in(bytes);
-    let docs = docs_in(alloc, collection, bytes)?;
-    Ok(Script { collection, docs })
+    let script = match Script::read(alloc, bytes, &[database()], STAMP, false) {
+        Ok(script) => script,
+        Err(fault) => return Err(fault),
+    };
+    match first_unplayed(script.actions()) {
+        None => Ok(script),
+        Some((number, what)) => Err(ScriptFault::Line { number, what }),
+    }
 }

@@ -10,7 +10,7 @@ pub enum Status {
     Done,
     /// The words give no command.
     Usage,
-    /// A line of the script has another form.
+    /// A line of the script is refused.
     ScriptRefused,
     /// The disk failed.
     DiskFault,

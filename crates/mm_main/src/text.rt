@@ -7,8 +7,12 @@ ghost use Rattle.mm_main.specs.Texts.{usage_text, disk_fault_text, source_fault_
 
 use crate::answers::Reply;
 use crate::finding::{Finding, What};
+use crate::script::line_of;
 use mm_base::NoMemory;
 use mm_bson::Doc;
+use mm_model::Action;
+use mm_notation::write_doc;
+use mm_script::LineWhat;
 use std::alloc::{AllocError, Global};
 use std::fmt::Write;
 
@@ -42,7 +46,7 @@ pub fn no_memory() -> &'static str
 }
 
 // Appends the line of a reply.
-fn push_reply(out: &mut String, number: u64, reply: Reply) -> Result<(), AllocError>
+fn push_reply(out: &mut String, number: u32, reply: Reply) -> Result<(), AllocError>
     ensures { OnOk result (string_bytes out.new ≡ string_bytes out.old ++ (decimal number ++ reply_text reply)) }
 {
     match reply {
@@ -51,22 +55,40 @@ fn push_reply(out: &mut String, number: u64, reply: Reply) -> Result<(), AllocEr
     }
 }
 
-/// A line for each reply, numbered from 1.
-pub fn replies_text(alloc: Global, replies: &[Reply]) -> Result<String, NoMemory>
-    ensures { IfOk result (λ text. string_bytes text ≡ reply_lines 1 replies.now) }
+// Appends a line for each reply to an action.
+fn push_replies(out: &mut String, actions: &[Action], replies: &[Reply]) -> Result<(), AllocError>
+    ensures { OnOk result (string_bytes out.new ≡ string_bytes out.old ++ reply_lines actions.now replies.now) }
+{
+    let mut rest = replies;
+    for action in actions {
+        let [reply, others @ ..] = rest else {
+            return Ok(());
+        };
+        push_reply(out, line_of(action), *reply)?;
+        rest = others;
+    }
+    Ok(())
+}
+
+/// A line for each reply to an action, with the number of the action's line.
+pub fn replies_text(
+    alloc: Global,
+    actions: &[Action],
+    replies: &[Reply],
+) -> Result<String, NoMemory>
+    ensures { IfOk result (λ text. string_bytes text ≡ reply_lines actions.now replies.now) }
 {
     let mut text = String::new(alloc);
-    for (i, reply) in replies.iter().enumerate() {
-        push_reply(&mut text, i as u64 + 1, *reply)?;
-    }
+    push_replies(&mut text, actions, replies)?;
     Ok(text)
 }
 
-/// What is said of a script whose line is the first of another form.
-pub fn refusal(alloc: Global, line: u64) -> Result<String, NoMemory>
-    ensures { IfOk result (λ text. string_bytes text ≡ refusal_text line) }
+/// What is said of a script of which this line is refused.
+pub fn refusal(alloc: Global, line: u32, what: LineWhat) -> Result<String, NoMemory>
+    ensures { IfOk result (λ text. string_bytes text ≡ refusal_text line what) }
 {
-    Ok(format!(in alloc; "line {line}: form\n")?)
+    let word = what.text();
+    Ok(format!(in alloc; "line {line}: {word}\n")?)
 }
 
 /// What is said of a file that is there.
@@ -99,13 +121,14 @@ pub fn finding(alloc: Global, found: &Finding) -> Result<String, NoMemory>
 }
 
 // Appends the line of a document of the collection with this full name.
-fn push_doc(alloc: Global, out: &mut Vec<u8>, name: &[u8], doc: &Doc) -> Result<(), NoMemory>
+fn push_doc(out: &mut Vec<u8>, name: &[u8], doc: &Doc) -> Result<(), NoMemory>
     ensures { OnOk result (out.new.items ≡ out.old.items ++ doc_line name.now doc.now) }
 {
-    let digits = hex::encode(alloc, doc.bytes())?;
     out.extend_from_slice(name)?;
-    out.extend_from_slice(b" hex:")?;
-    out.extend_from_slice(digits.as_bytes())?;
+    out.extend_from_slice(b" ")?;
+    if write_doc(doc, out).is_err() {
+        return Err(NoMemory);
+    }
     out.extend_from_slice(b"\n")?;
     Ok(())
 }
@@ -116,7 +139,7 @@ pub fn docs_text(alloc: Global, name: &[u8], docs: &[Doc]) -> Result<Vec<u8>, No
 {
     let mut out = Vec::new(alloc);
     for doc in docs {
-        push_doc(alloc, &mut out, name, doc)?;
+        push_doc(&mut out, name, doc)?;
     }
     Ok(out)
 }

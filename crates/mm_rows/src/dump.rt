@@ -8,7 +8,7 @@ use std::test::Fail;
 
 /// Three inserts of small documents, whose records lie at 8368, 8400 and 8432.
 const THREE_INSERTS: &[u8] =
-    b"1 test insert c hex:0e000000105f6964000100000000\n1 test insert c hex:0500000000\n1 test insert c hex:0E000000105F6964000200000000\n";
+    b"1 test insert c hex:0e000000105f6964000100000000\n1 test insert c {\"_id\": 7}\n1 test insert c hex:0E000000105F6964000200000000\n";
 
 /// Plays a script and dumps its file: what each said, and the disk's moment then.
 fn play_and_dump(alloc: Global, script: &[u8]) -> Result<(Said, Said, u64), AllocError> {
@@ -18,19 +18,19 @@ fn play_and_dump(alloc: Global, script: &[u8]) -> Result<(Said, Said, u64), Allo
     Ok((played, dumped, disk.moment()))
 }
 
-/// The documents are those that were stored, in their order, whatever the digits' case was.
+/// The documents are those that were stored, in their order, whatever the digits' case was, with their `_id` in front or a made one.
 #[test]
 fn what_was_played_is_printed(rt: HostRuntime) -> Result<(), Fail> {
     let scripts: [(&[u8], &[u8]); 4] = [
         (b"", b""),
-        (ONE_INSERT, b"test.c hex:0e000000105f6964000100000000\n"),
+        (ONE_INSERT, b"test.c {\"_id\": 1}\n"),
         (
             THREE_INSERTS,
-            b"test.c hex:0e000000105f6964000100000000\ntest.c hex:0500000000\ntest.c hex:0e000000105f6964000200000000\n",
+            b"test.c {\"_id\": 1}\ntest.c {\"_id\": 7}\ntest.c {\"_id\": 2}\n",
         ),
         (
-            b"1 test insert a.b_C hex:0500000000\n",
-            b"test.a.b_C hex:0500000000\n",
+            b"1 test insert a.b_C {\"a\": [MinKey], \"_id\": \"x\"}\n\n# a comment\n2 test insert a.b_C {}\n",
+            b"test.a.b_C {\"_id\": \"x\", \"a\": [MinKey]}\ntest.a.b_C {\"_id\": ObjectId(\"53724e000000000002000004\")}\n",
         ),
     ];
     for (script, text) in scripts {
@@ -60,7 +60,7 @@ fn a_full_file_is_printed(rt: HostRuntime) -> Result<(), Fail> {
         b"1 ok 1\n2 NoSpace\n3 ok 1\n".as_slice()
     );
     assert_eq!(rt; dumped.code, 0);
-    assert_eq!(rt; dumped.text.len(), 2 * (524_272 + 262_128) + 2 * 12);
+    assert_eq!(rt; dumped.text.len(), 524_272 + 262_128 + 2 * 4);
     Ok(())
 }
 
@@ -219,7 +219,7 @@ fn forged_records_are_told(rt: HostRuntime) -> Result<(), Fail> {
         (&[(8464, &[0])], b"bad file test.0 8464 tiling\n"),
         // a document: its length, its end, its type
         (&[(8416, &[4])], b"bad file test.0 8400 document\n"),
-        (&[(8420, &[1])], b"bad file test.0 8400 document\n"),
+        (&[(8429, &[1])], b"bad file test.0 8400 document\n"),
         (&[(8388, &[0x7e])], b"bad file test.0 8368 document\n"),
     ];
     assert_eq!(rt; first_untold(rt.alloc(), &forged)?, None);

@@ -80,31 +80,33 @@ fn an_empty_script_makes_a_file_without_extents(rt: HostRuntime) -> Result<(), F
     Ok(())
 }
 
-/// Each script is refused with the number of its first line of another form, and the disk has had no call.
+/// Each script is refused with its first line that isn't played and what of it isn't there, and the disk has had no call.
 #[test]
-fn a_line_of_another_form_is_refused(rt: HostRuntime) -> Result<(), Fail> {
-    let scripts: [(&[u8], &[u8]); 12] = [
-        (b"2 test insert c hex:00\n", b"line 1: form\n"),
-        (b"1 test insert c hex:0500000000\n\n", b"line 2: form\n"),
-        (b"# a comment\n", b"line 1: form\n"),
+fn a_line_that_is_not_played_is_refused(rt: HostRuntime) -> Result<(), Fail> {
+    let scripts: [(&[u8], &[u8]); 14] = [
+        (b"9 test insert c {}\n", b"line 1: session\n"),
+        (b"1\ttest insert c {}\n", b"line 1: session\n"),
+        (b"1 other insert c {}\n", b"line 1: database\n"),
         (
-            b"1 test insert c hex:0500000000\n1 test insert d hex:0500000000\n",
-            b"line 2: form\n",
+            b"1 test insert c {}\n\n1 test frob c {}\n",
+            b"line 3: verb\n",
         ),
-        (b"1  test insert c hex:0500000000\n", b"line 1: form\n"),
-        (b"1 test insert c hex:0500000000 \n", b"line 1: form\n"),
-        (b"1 test insert c hex:050000000\n", b"line 1: form\n"),
-        (b"1 test insert c hex:0500000001\n", b"line 1: form\n"),
         (
-            b"1 test insert system.c hex:0500000000\n",
-            b"line 1: form\n",
+            b"1 test insert c {}\n1 test insert d {}\n",
+            b"line 2: verb\n",
         ),
-        (b"1 test insert  hex:0500000000\n", b"line 1: form\n"),
-        (b"1 test insert c hex:0500000000\r\n", b"line 1: form\n"),
+        (b"1 test find c {}\n", b"line 1: verb\n"),
+        (b"1 test insert system.c {}\n", b"line 1: collection\n"),
         (
-            b"1 test insert abcdefghijabcdefghijabcdefghijabcdefghijabcdefghijabcdefghijk hex:0500000000\n",
-            b"line 1: form\n",
+            b"1 test insert c {}\n1 test insert c {\"_id\": 1",
+            b"line 2: document\n",
         ),
+        (b"1 test insert c hex:0500000001\n", b"line 1: document\n"),
+        (b"# a comment\n1 test insert c {} j\n", b"line 2: word\n"),
+        (b"1 test insert c {} {}\n", b"line 1: word\n"),
+        (b"1 test insert c {}\n!commit\n", b"line 2: step\n"),
+        (b"1 test insert c {} \xff\n", b"line 1: utf-8\n"),
+        (b"1 test drop c\n1 test insert c {\n", b"line 2: document\n"),
     ];
     for (script, text) in scripts {
         let (said, calls) = play_alone(rt.alloc(), script)?;
@@ -114,14 +116,14 @@ fn a_line_of_another_form_is_refused(rt: HostRuntime) -> Result<(), Fail> {
     Ok(())
 }
 
-/// Hex digits of both cases, names with each kind of byte, and a last line that nothing ends.
+/// Hex digits of both cases, names with each kind of byte, several spaces, and a last line that nothing ends.
 #[test]
 fn other_spellings_of_a_line_are_read(rt: HostRuntime) -> Result<(), Fail> {
     let script =
-        b"1 test insert aZ_0.system. hex:0E000000105f6964000100000000\n1 test insert aZ_0.system. hex:0500000000";
+        b"1 test insert aZ_0.system. hex:0E000000105f6964000100000000\n\n  8  test insert aZ_0.system. { } ";
     let (said, _) = play_alone(rt.alloc(), script)?;
     assert_eq!(rt; said.code, 0);
-    assert_eq!(rt; said.text.as_slice(), b"1 ok 1\n2 ok 1\n".as_slice());
+    assert_eq!(rt; said.text.as_slice(), b"1 ok 1\n3 ok 1\n".as_slice());
     Ok(())
 }
 
@@ -132,7 +134,7 @@ fn a_script_past_its_most_bytes_is_refused(rt: HostRuntime) -> Result<(), Fail> 
     script.resize(67_108_865, b'x')?;
     let (said, _) = play_alone(rt.alloc(), script.as_slice())?;
     assert_eq!(rt; said.code, 3);
-    assert_eq!(rt; said.text.as_slice(), b"line 2: form\n".as_slice());
+    assert_eq!(rt; said.text.as_slice(), b"line 2: too long\n".as_slice());
     Ok(())
 }
 
@@ -239,7 +241,7 @@ fn script_with(alloc: Global, lens: &[u32]) -> Result<Vec<u8>, AllocError> {
 /// A document that asks for more than is left finds no space; one that just fits does, and its record keeps a rest below 32.
 #[test]
 fn the_last_bytes_of_the_extent(rt: HostRuntime) -> Result<(), Fail> {
-    let script = script_with(rt.alloc(), &[128 - 16, 64 - 16, 14])?;
+    let script = script_with(rt.alloc(), &[128 - 16, 64 - 16, 16])?;
     let places: [(u64, &[u8]); 1] = [(
         1_048_496,
         &[
@@ -257,7 +259,7 @@ fn the_last_bytes_of_the_extent(rt: HostRuntime) -> Result<(), Fail> {
 /// A rest of 32 bytes or more is one deleted block.
 #[test]
 fn a_rest_of_the_extent_is_a_deleted_block(rt: HostRuntime) -> Result<(), Fail> {
-    let script = script_with(rt.alloc(), &[14])?;
+    let script = script_with(rt.alloc(), &[16])?;
     let places: [(u64, &[u8]); 1] = [(
         1_048_528,
         &[48, 0, 0, 0, 0, 0x20, 0, 0, 255, 255, 255, 255, 0, 0, 0, 0],

@@ -73,12 +73,12 @@ pub fn bytes_at(alloc: Global, disk: &mut MemDisk, at: u64, len: usize) -> Resul
     Ok(bytes)
 }
 
-/// Appends a line that inserts a document of so many bytes, 14 at least: one text of `x`.
+/// Appends a line that inserts a document of so many bytes, 15 at least: one text of `x`, which is its `_id`.
 pub fn push_insert(alloc: Global, out: &mut Vec<u8>, len: u32) -> Result<(), AllocError> {
-    let text = len.saturating_sub(13);
+    let text = len.saturating_sub(15);
     let mut doc = Vec::new(alloc);
     doc.extend_from_slice(&len.to_le_bytes())?;
-    doc.extend_from_slice(&[2, b's', 0])?;
+    doc.extend_from_slice(b"\x02_id\0")?;
     doc.extend_from_slice(&text.saturating_add(1).to_le_bytes())?;
     for _ in 0..text {
         doc.push(b'x')?;

@@ -1,6 +1,6 @@
 use Rattle.std.proofs.Common.{drop}
-use Rattle.mm_main.proofs.StoreSteps.{Storing}
+use Rattle.mm_main.proofs.StoreSteps.{Inserting}
 use Rattle.mm_main.proofs.store.insert_all.Given as goal
 
-abbrev pub invariant-loop-doc : goal.invariant-loop-doc
-invariant-loop-doc l = Storing l.collection l.docs (drop l.doc-index l.docs) l.replies.items l.store
+abbrev pub invariant-loop-action : goal.invariant-loop-action
+invariant-loop-action l = Inserting l.collection l.actions (drop l.action-index l.actions) l.replies.items l.store

@@ -1,0 +1,68 @@
+#!/usr/bin/env python3
+"""Times the reading of scripts as LLVM builds it, through `mmap play`, which reads a whole script before it stores anything.
+
+usage: bench/script.py [RUNS]      (default: 5 runs of each size; the program is built first where it is missing)
+
+The scripts have 1,000, 10,000 and 100,000 lines of about 100 bytes, each an insert of a document in notation, or of the same document in
+hex. Their last line has no verb, so the script is refused (status 3), the folder isn't touched and nothing is stored. Prints for each size
+the median past start-up, how many MB of script that is a second, and how much more time ten times the lines took. The reading of standard
+input is in the figures.
+"""
+import statistics
+import subprocess
+import sys
+import tempfile
+import time
+from pathlib import Path
+
+TOP = Path(__file__).resolve().parent.parent
+FOLDER = TOP / "crates/mmap"
+PROGRAM = FOLDER / "out/mmap"
+SIZES = (1_000, 10_000, 100_000)
+
+
+def notation(n: int) -> str:
+    return '1 test insert c {"_id": %d, "name": "a name of some length", "count": NumberLong(%d), "open": true}' % (n, n % 1000)
+
+
+def in_hex(n: int) -> str:
+    inside = b"\x10_id\0" + n.to_bytes(4, "little") + b"\x02s\0" + (11).to_bytes(4, "little") + b"0123456789\0"
+    spelled = (len(inside) + 5).to_bytes(4, "little") + inside + b"\0"
+    return "1 test insert c hex:" + spelled.hex()
+
+
+def script(line, lines: int) -> str:
+    return "\n".join([line(n) for n in range(lines - 1)] + ["1 test frob c {}\n"])
+
+
+def timed(text: str, runs: int, answer: str) -> float:
+    taken = []
+    with tempfile.TemporaryDirectory() as above:
+        for _ in range(runs):
+            start = time.perf_counter()
+            run = subprocess.run([PROGRAM, "play", Path(above) / "store"], input=text.encode(), capture_output=True)
+            taken.append(time.perf_counter() - start)
+            if run.returncode != 3 or run.stdout.decode() != answer:
+                sys.exit(f"another answer: {run.returncode} {run.stdout[:80]}")
+    return statistics.median(taken)
+
+
+def main() -> None:
+    runs = int(sys.argv[1]) if len(sys.argv) > 1 else 5
+    if not PROGRAM.exists():
+        with tempfile.TemporaryDirectory() as above:
+            subprocess.run(["rt", "run", "--", "play", f"{above}/store"], cwd=FOLDER, stdin=subprocess.DEVNULL, stdout=subprocess.DEVNULL, check=True)
+    start_up = timed("1 test frob c {}\n", runs, "line 1: verb\n")
+    print(f"start-up {start_up * 1000:.1f} ms")
+    for name, line in (("notation", notation), ("hex", in_hex)):
+        before = None
+        for lines in SIZES:
+            text = script(line, lines)
+            past = max(timed(text, runs, f"line {lines}: verb\n") - start_up, 1e-9)
+            growth = "" if before is None else f", {past / before:.1f} times the size before"
+            print(f"{name}: {lines} lines, {len(text) / 1e6:.2f} MB: {past * 1000:.1f} ms, {len(text) / 1e6 / past:.0f} MB/s{growth}")
+            before = past
+
+
+if __name__ == "__main__":
+    main()
