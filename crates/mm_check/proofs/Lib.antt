@@ -24,3 +24,5 @@ pub mod FoundExtents
 pub mod FoundAreas
 pub mod CheckLaws
 pub mod FoundRecords
+pub mod FileLoops
+pub mod CodeTests

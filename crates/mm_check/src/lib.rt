@@ -7,17 +7,28 @@
 //!   (`NodeLaws`), the extents' chains (`ExtentsBack`), the live records (`RecordLaws`, `RecordsBack`, `PhaseBack`), the deleted lists
 //!   (`ListLaws`, `ListsBack`), the blocks of an extent (`BlockLaws`, `BlocksBack`) and the constant fields of details (`CountLaws`). That
 //!   extents tile each file is said from the check to what stands (`AreaLaws`, `Tiled`).
-//! - `live_chains` follows the live chains of extents in their order: all their records exactly where each chain is whole, else the one
-//!   place that is first wrong.
+//! - What the phases up to `chain` find meets the premises of their laws (`FoundExtents`, `FoundAreas`, `FoundRecords`).
+//! - `wrong_file` answers the first file that is missing or wrong; `first_lost` the first extent that no chain has; `live_chains` follows
+//!   the live chains of extents in their order: all their records exactly where each chain is whole, else the one place that is first
+//!   wrong. How the extents of a file, those of a node and a list of deleted blocks are read is proved to be as their definitions say
+//!   (`FileExtents`, `NodeExtents`, `Deleted`).
 //!
-//! The laws of single phases aren't joined to one law on all of them yet, and the other phases have no code. Each walk ends on any bytes.
+//! The laws of single phases aren't joined to one law on all of them yet, and the phases aren't run in a row. Each walk ends on any bytes.
 //! Want of memory has its own answer.
 #![tactic(auto)]
 
+mod extents;
+mod files;
 mod frames;
+mod lists;
+mod lost;
+mod nodes;
 mod numbers;
 mod phases;
+mod places;
 mod records;
 
+pub use files::wrong_file;
+pub use lost::first_lost;
 pub use phases::live_chains;
 pub use records::Records;

@@ -10,13 +10,14 @@ use mm_views::Views;
 use mm_walk::{Chain, Link};
 
 /// The live records of an extent.
+#[derive(Drop)]
 pub struct Records<'a> {
-    views: &'a Views,
-    file: u32,
-    ofs: u32,
-    len: u32,
-    first: DiskLoc,
-    last: DiskLoc,
+    pub(crate) views: &'a Views,
+    pub(crate) file: u32,
+    pub(crate) ofs: u32,
+    pub(crate) len: u32,
+    pub(crate) first: DiskLoc,
+    pub(crate) last: DiskLoc,
     ghost lies: { LiesIn views.now.private file ofs len },
 }
 
