@@ -1,7 +1,7 @@
 //! Extents one behind the other in a file, and on the chains of their nodes.
 
 ghost use Rattle.std.specs.Prelude.{◌≡◌};
-ghost use Rattle.mm_check.specs.ExtentChain.{EndsIn, KnowsExtents, extent_head, file_reading, chain_reading};
+ghost use Rattle.mm_check.specs.ExtentChain.{EndsIn, KnowsExtents, file_reading, chain_reading};
 
 use crate::frames::read_extent;
 use crate::numbers::{is_pages, leads_on, names_place, place_link, size};

@@ -1,6 +1,6 @@
 //! The files of a database: whether they are there, with their lengths and headers.
 
-ghost use Rattle.std.specs.Prelude.{◌≡◌, ◌<◌, ◌≤◌, ◌-◌, length, suc, Some, None};
+ghost use Rattle.std.specs.Prelude.{◌≡◌, ◌<◌, ◌≤◌, ◌-◌, length, Some, None};
 ghost use Rattle.std.specs.FinMap.{get};
 ghost use Rattle.mm_base.specs.Bytes.{part};
 ghost use Rattle.mm_ranges.specs.Overlay.{bytes_at};

@@ -1,9 +1,9 @@
 //! The nodes of `.ns`, as the private image has them.
 
 ghost use Rattle.std.specs.Prelude.{◌≡◌, ◌+◌, ◌*◌, ◌<◌, ◌≤◌, length, IfOk};
-ghost use Rattle.mm_nstable.specs.Nodes.{count_of, node_at, head_in, details_in};
+ghost use Rattle.mm_nstable.specs.Nodes.{count_of, node_at, head_in};
 ghost use Rattle.mm_records.specs.Stands.{ns_in};
-ghost use Rattle.mm_check.specs.Findings.{nodes_in, details_at, field_of};
+ghost use Rattle.mm_check.specs.Findings.{nodes_in, details_at};
 
 use mm_frames::{
     DETAILS_LEN, Details, NODE_HEAD_LEN, NODE_LEN, NodeHead, read_details, read_node_head,
