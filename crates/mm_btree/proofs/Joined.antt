@@ -14,7 +14,7 @@ use Rattle.mm_btree.proofs.Frames.{opened, all_adopted, all_stand_same, roots_in
 use Rattle.mm_btree.proofs.Moved.{all-append}
 use Rattle.mm_btree.proofs.Settling.{settled_one, settled_two}
 
-kids_within : (m : Buckets) (at : DiskLoc) (h : ℕ) (ps : List Item) (cs : List Sub) → Below m at h ps cs → (q : DiskLoc) → has q (map at_of cs) ≡ true → has q (all_places cs) ≡ true
+pub kids_within : (m : Buckets) (at : DiskLoc) (h : ℕ) (ps : List Item) (cs : List Sub) → Below m at h ps cs → (q : DiskLoc) → has q (map at_of cs) ≡ true → has q (all_places cs) ≡ true
 kids_within m at zero ps cs t q e = let none : has q (map at_of []) ≡ true = subst (λ (xs : List Sub). has q (map at_of xs) ≡ true) t e in absurd cc
 kids_within m at (suc h) ps cs t q e = roots_in m at h cs t.1 q e
 

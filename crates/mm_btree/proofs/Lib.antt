@@ -20,3 +20,12 @@ pub mod RootCalls
 pub mod Searched
 pub mod Listing
 pub mod Ranged
+pub mod Takings
+pub mod Removals
+pub mod Exchanges
+pub mod JoinCalls
+pub mod MendCalls
+pub mod RemoveCalls
+pub mod SteadCalls
+pub mod RootLeft
+pub mod WholeCalls

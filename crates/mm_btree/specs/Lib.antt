@@ -4,3 +4,4 @@ pub mod Trees
 pub mod Changes
 pub mod Order
 pub mod Listed
+pub mod Removal

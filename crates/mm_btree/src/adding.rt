@@ -86,7 +86,7 @@ fn over(left: DiskLoc, up: &Raised) -> Bucket
 }
 
 /// Puts a new root over the old one and what was parted from it.
-fn grow<S: NodeStore>(store: &mut S, root: DiskLoc, up: &Raised) -> Result<DiskLoc, TreeFault>
+pub fn grow<S: NodeStore>(store: &mut S, root: DiskLoc, up: &Raised) -> Result<DiskLoc, TreeFault>
     requires root { root ≡ null → ⊥ }
     requires there { AreThere (S.bucket_at store.old) (root ∷ up.now.right ∷ []) }
     ensures free { IfOk result (λ r. S.bucket_at store.old r ≡ None) }

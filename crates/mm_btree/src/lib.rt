@@ -12,19 +12,27 @@
 //!
 //! The calls work on any `NodeStore`, a map from places to buckets that can be read, written, and given more places. `find` gives the
 //! record of the first pair whose key is equal, and reads one path. `insert` puts a pair in its place, parting buckets up to a new root.
+//! `remove` takes a pair out, and joins a bucket that has none left with its neighbour, down to a lower root.
 //! `range` gives the records of the pairs between two bounds in their order, and `walk` those of all. `make` makes a tree without pairs.
 #![tactic(auto)]
 
 mod adding;
+mod carried;
+mod exchanging;
 mod fault;
+mod joining;
 mod laws;
 mod making;
+mod mending;
+mod outcome;
 mod raised;
 mod ranges;
+mod removing;
 mod search;
 mod settle;
 mod store;
 mod unique;
+mod whole;
 
 pub use fault::TreeFault;
 pub use laws::{
@@ -36,3 +44,4 @@ pub use ranges::{range, walk};
 pub use search::find;
 pub use store::NodeStore;
 pub use unique::insert;
+pub use whole::{Root, remove};
