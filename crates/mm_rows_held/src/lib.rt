@@ -4,7 +4,6 @@
 //! that a held database does what a plain model of it does.
 #![tactic(auto)]
 
-#[cfg(test)]
 mod bench;
 #[cfg(test)]
 mod commands;
@@ -20,5 +19,4 @@ mod plain;
 mod probes;
 #[cfg(test)]
 mod rings;
-#[cfg(test)]
 mod toy;
