@@ -63,15 +63,15 @@ given_up m db c old new r answer is stands answered t = record {
 -- what is adopted is a step
 pub adopted_step : (m : Meaning) (db : Stored) (c : Command) (views : State) (d : Drafting) (s : State) (answer : Answer) (used : ℕ)
     → IsAdoptedFor m db c (drafting_of views) d answer → d.views ≡ views → IsReady used d → IsAdopted d s
-    → weight_in s.made s.opened ≤ weight_in d.views.made d.views.opened + weight_in d.made d.declared
+    → weight_in s.made s.opened ≤ weight_in d.views.made d.views.opened + weight_in d.made d.declared → used ≡ weight_in views.made views.opened
     → IsStep m db c views s answer.reply
-adopted_step m db c views d s answer used a v ready is weight = record {
+adopted_step m db c views d s answer used a v ready is weight weighed = record {
   reply = ok_reply m (m.room s.private) db c answer.reply a.done a.carried.reply;
   stands = subst (m.stands s.private) (sym (ok_moved m db c answer.reply a.done)) (subst (λ image. m.stands image (m.after db c).1) (sym is.private) a.carried.stands);
   room = subst (λ image. m.room image ≤ m.room views.private) (sym is.private) a.carried.room;
   shared = is.shared ∙ ap (λ (w : State). w.shared) v;
   closed = is.closed ∙ ap (λ (w : State). w.closed) v;
-  opened = λ _. record { weight = weight_of d; cause = a.carried.weight; limit = ready.step; opened = subst (λ (w : State). weight_in s.made s.opened ≤ weight_in w.made w.opened + weight_of d) v weight };
+  opened = λ _. record { weight = weight_of d; cause = a.carried.weight; limit = ready.step; group = subst (λ n. n + weight_of d ≤ 134217728) weighed ready.group; opened = subst (λ (w : State). weight_in s.made s.opened ≤ weight_in w.made w.opened + weight_of d) v weight };
   refused = λ no_ok. absurd (let yes = a.done in cc);
 }
 

@@ -53,11 +53,12 @@ IsFound m image NoMemoryThere = Unit {0}
 
 -- ---- what a step of a database owes
 
--- What an Ok opens: the draft's weight is within a step's limit, and is one that the command may have.
+-- What an Ok opens: the draft's weight is one that the command may have, within a step's limit, and within a group's together with what was opened.
 pub record IsOpened (m : Meaning) (c : Command) (old new : State) : Type 0 where
   pub weight : ℕ
   pub cause : m.may_weigh old.private c weight
   pub limit : weight ≤ 67108864
+  pub group : weight_in old.made old.opened + weight ≤ 134217728
   pub opened : weight_in new.made new.opened ≤ weight_in old.made old.opened + weight
 
 -- The command has this reply; the private image stands for the database after it, and its room hasn't risen. The shared image and the closed

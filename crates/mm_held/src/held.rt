@@ -5,7 +5,7 @@ ghost use Rattle.mm_views.specs.State.{weight_in};
 ghost use Rattle.mm_tie.specs.Ends.{taken, taker_ring, taker_room};
 ghost use Rattle.mm_held.specs.Meaning.{Stored};
 ghost use Rattle.mm_held.specs.Steps.{IsStep, IsCause};
-ghost use Rattle.mm_held.specs.Images.{IsApplied, last_up_to};
+ghost use Rattle.mm_held.specs.Images.{IsImaged, IsApplied, last_up_to};
 ghost use Rattle.mm_held.specs.Log.{IsAboveLast, LinesRise, mark, marks_of};
 ghost use Rattle.mm_held.specs.Loaded.{StandsIfAny};
 ghost use Rattle.mm_held.specs.Held.{IsStarted, IsTold, AreNewPasses, IsHeld, IsSeated, HasRoom, IsEntered, Closes, entry, section_of, all_marks, log_of};
@@ -187,9 +187,11 @@ impl<E: Engine, P: Probe> Held<E, P> {
         self.images.remap();
     }
 
-    /// The section of the last closed group, or that of item 0. It takes no memory.
+    /// The section of the last closed group, or that of item 0, and what is true of the images: where the two differ, something is opened
+    /// or a closed part waits to be applied. It takes no memory.
     pub fn closed(&self) -> u64
-        ensures { result ≡ self.now.images.first + length self.now.groups }
+        ensures section { result ≡ self.now.images.first + length self.now.groups }
+        ensures imaged { IsImaged self.now.images }
     {
         self.images.last()
     }

@@ -221,6 +221,7 @@ impl Images {
     pub fn last(&self) -> u64
         ensures last { result + 1 ≡ self.now.first + length self.now.given }
         ensures bound { result + 1 < 2 ^ 64 }
+        ensures imaged { IsImaged self.now }
     {
         self.last
     }

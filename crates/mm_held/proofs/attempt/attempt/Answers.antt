@@ -26,7 +26,7 @@ returns-in-Ok-Adopted-clause-step g c db stands =
     let a = subst (IsFate m db c.args.command.now c.draft-draft.result new) c.in-Ok-Adopted.field-0-is f in
     let b = subst (λ d. IsAdoptedFor m db c.args.command.now d new answer) c.draft-draft.ensures a in
     let ready = subst (IsReadyFor c.weight-used.result new) c.in-Ok-Adopted.field-0-is c.in-Ok-Adopted.ensures.ready in
-    adopted_step m db c.args.command.now c.args.views new c.adopt.result answer c.weight-used.result b (c.in-Ok-Adopted.ensures.views ∙ ap (λ (d : Drafting). d.views) c.draft-draft.ensures) ready c.adopt.ensures.adopted c.adopt.ensures.weight
+    adopted_step m db c.args.command.now c.args.views new c.adopt.result answer c.weight-used.result b (c.in-Ok-Adopted.ensures.views ∙ ap (λ (d : Drafting). d.views) c.draft-draft.ensures) ready c.adopt.ensures.adopted c.adopt.ensures.weight c.weight-used.ensures.weight
 
 pub returns-in-Ok-GivenUp-clause-twice : goal.returns-in-Ok-GivenUp-clause-twice
 returns-in-Ok-GivenUp-clause-twice g c =
