@@ -1,0 +1,6 @@
+pub mod Nodes
+pub mod Finding
+pub mod Answering
+pub mod Made
+pub mod Refusing
+pub mod Examples

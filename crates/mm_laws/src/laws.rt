@@ -1,0 +1,65 @@
+//! Laws of commands and of scripts, each the contract of a function that does nothing.
+
+ghost use Rattle.mm_laws.specs.Answering.{EnsureCounts, DropCounts, TooLargeComesFirst};
+ghost use Rattle.mm_laws.specs.Examples.{MadeIdInFront, MadeIdFound};
+ghost use Rattle.mm_laws.specs.Finding.{FindsWhatMatches, FindsById, FindsByKey};
+ghost use Rattle.mm_laws.specs.Made.{MadeIdsAreFound};
+ghost use Rattle.mm_laws.specs.Nodes.{FullByCount, RoomComesBack};
+ghost use Rattle.mm_laws.specs.Refusing.{EachIsJudged, NoneIsBoth, ScriptsAreOne, RefusalsAreOne};
+
+/// A command is refused for want of nodes exactly where it would leave a
+/// database that takes more of them than there are.
+pub fn nodes_are_counted()
+    ensures { FullByCount }
+{}
+
+/// Behind a dropped collection there is room for a new one.
+pub fn room_comes_back()
+    ensures { RoomComesBack }
+{}
+
+/// A find gives each document that matches, once.
+pub fn finds_give_what_matches()
+    ensures { FindsWhatMatches }
+{}
+
+/// A find gives documents in the order of `_id`, and by an index in the order
+/// of its keys and then of `_id`.
+pub fn finds_are_sorted()
+    ensures id { FindsById }
+    ensures key { FindsByKey }
+{}
+
+/// The number of an `ensureIndex` is how many indexes came, that of a
+/// `dropIndex` how many went.
+pub fn indexing_counts_indexes()
+    ensures ensure { EnsureCounts }
+    ensures drop { DropCounts }
+{}
+
+/// A document that is too large is refused as such before its `_id` and its
+/// keys are looked at.
+pub fn too_large_comes_first()
+    ensures { TooLargeComesFirst }
+{}
+
+/// A document that is put in without `_id` is found by the made one, and
+/// nothing else is.
+pub fn made_ids_are_found()
+    ensures { MadeIdsAreFound }
+{}
+
+/// The worked examples of specs/Examples.
+pub fn worked_examples()
+    ensures front { MadeIdInFront }
+    ensures found { MadeIdFound }
+{}
+
+/// Whatever the bytes are, they are a script, which asks for one list of
+/// actions, or they are refused at one line and for one cause.
+pub fn bytes_are_judged()
+    ensures each { EachIsJudged }
+    ensures apart { NoneIsBoth }
+    ensures script { ScriptsAreOne }
+    ensures refusal { RefusalsAreOne }
+{}
