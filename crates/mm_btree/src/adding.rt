@@ -51,6 +51,7 @@ fn insert_below<S: NodeStore>(
     ensures place { OnOk result (at ≡ null → ⊥) }
     ensures full { IsErrOf result TreeFault.NoSpace → S.is_full store.new }
     ensures other { IsErrOf result TreeFault.Duplicate → ⊥ }
+    ensures stays { S.beside store.new ≡ S.beside store.old }
 {
     let bucket = store.read(at)?;
     let place = place_of(&bucket, key, rec, spec);
@@ -93,6 +94,7 @@ pub fn grow<S: NodeStore>(store: &mut S, root: DiskLoc, up: &Raised) -> Result<D
     ensures same { IfOk result (λ r. (q : DiskLoc) → S.bucket_at store.new q ≡ rooted_map (S.bucket_at store.old) r root up.now q) }
     ensures full { IsErrOf result TreeFault.NoSpace → S.is_full store.new }
     ensures other { IsErrOf result TreeFault.Duplicate → ⊥ }
+    ensures stays { S.beside store.new ≡ S.beside store.old }
 {
     let bucket = over(root, up);
     let place = store.add(&bucket)?;
@@ -118,6 +120,7 @@ pub fn insert_pair<S: NodeStore>(
         (ins (item_lt spec.now) (record { key = key.now; rec = rec }) s.pairs) t) }
     ensures full { IsErrOf result TreeFault.NoSpace → S.is_full store.new }
     ensures other { IsErrOf result TreeFault.Duplicate → ⊥ }
+    ensures stays { S.beside store.new ≡ S.beside store.old }
 {
     match insert_below(alloc, store, spec, root, height, key, rec)? {
         None => Ok(None),

@@ -37,6 +37,7 @@ pub fn exchange_below<S: NodeStore>(
     ensures place { OnOk result (at ≡ null → ⊥) }
     ensures full { IsErrOf result TreeFault.NoSpace → S.is_full store.new }
     ensures other { IsErrOf result TreeFault.Duplicate → ⊥ }
+    ensures stays { S.beside store.new ≡ S.beside store.old }
 {
     let bucket = store.read(at)?;
     match look_for(&bucket, key, rec, spec) {

@@ -29,8 +29,9 @@ fn part_anew<S: NodeStore>(
     requires right { IsSome (S.bucket_at store.old right) }
     requires last { last + 1 ≡ length whole.pairs }
     requires whole { (w : Contents) × IsParted w whole rest.now × AreAlike (children w) × AreThere (S.bucket_at store.old) (node_of w).kids }
-    ensures { IfOk result (λ mid. (w : Contents) → IsParted w whole rest.now → AreAlike (children w)
+    ensures ok { IfOk result (λ mid. (w : Contents) → IsParted w whole rest.now → AreAlike (children w)
         → IsSettled (put (S.bucket_at store.old) right None) (S.bucket_at store.new) left (node_of w) (up_at right (Some mid))) }
+    ensures stays { S.beside store.new ≡ S.beside store.old }
 {
     let mid = Carried::of(alloc, &whole, last)?;
     whole.remove_at(last);
@@ -60,8 +61,9 @@ fn fold<S: NodeStore>(
     requires key { IsKey key.now }
     requires alike { AreAlike (children (with_pair whole place key.now rec after)) }
     requires kids { AreThere (S.bucket_at store.old) (node_of (with_pair whole place key.now rec after)).kids }
-    ensures { IfOk result (λ r. IsSettled (put (S.bucket_at store.old) right None) (S.bucket_at store.new) left
+    ensures ok { IfOk result (λ r. IsSettled (put (S.bucket_at store.old) right None) (S.bucket_at store.new) left
         (node_of (with_pair whole place key.now rec after)) (up_at right r)) }
+    ensures stays { S.beside store.new ≡ S.beside store.old }
 {
     let mut rest = Bucket::new(DiskLoc::NULL);
     match whole.put(place, key, rec, after, &mut rest) {
@@ -88,8 +90,9 @@ pub fn join_behind<S: NodeStore>(
 ) -> Result<Option<Carried>, NoMemory>
     requires key { IsKey key.now }
     requires two { (b c : Node) × AreNeighbours (S.bucket_at store.old) left right b c × (c.pairs ≡ []) }
-    ensures { IfOk result (λ r. (b c : Node) → AreNeighbours (S.bucket_at store.old) left right b c → c.pairs ≡ []
+    ensures ok { IfOk result (λ r. (b c : Node) → AreNeighbours (S.bucket_at store.old) left right b c → c.pairs ≡ []
         → IsJoined (S.bucket_at store.old) (S.bucket_at store.new) left right b (record { key = key.now; rec = rec }) c r) }
+    ensures stays { S.beside store.new ≡ S.beside store.old }
 {
     let whole = store.read(left)?;
     let thin = store.read(right)?;
@@ -119,8 +122,9 @@ pub fn join_before<S: NodeStore>(
 ) -> Result<Option<Carried>, NoMemory>
     requires key { IsKey key.now }
     requires two { (b c : Node) × AreNeighbours (S.bucket_at store.old) left right b c × (b.pairs ≡ []) }
-    ensures { IfOk result (λ r. (b c : Node) → AreNeighbours (S.bucket_at store.old) left right b c → b.pairs ≡ []
+    ensures ok { IfOk result (λ r. (b c : Node) → AreNeighbours (S.bucket_at store.old) left right b c → b.pairs ≡ []
         → IsJoined (S.bucket_at store.old) (S.bucket_at store.new) left right b (record { key = key.now; rec = rec }) c r) }
+    ensures stays { S.beside store.new ≡ S.beside store.old }
 {
     let thin = store.read(left)?;
     let mut whole = store.read(right)?;

@@ -13,6 +13,7 @@ pub fn make<S: NodeStore>(store: &mut S) -> Result<DiskLoc, TreeFault>
     ensures made { IfOk result (IsMade (S.bucket_at store.old) (S.bucket_at store.new)) }
     ensures full { IsErrOf result TreeFault.NoSpace → S.is_full store.new }
     ensures other { IsErrOf result TreeFault.Duplicate → ⊥ }
+    ensures stays { S.beside store.new ≡ S.beside store.old }
 {
     let root = store.add(&Bucket::new(DiskLoc::NULL))?;
     Ok(root)

@@ -28,7 +28,8 @@ pub fn write_left<S: NodeStore>(
 ) -> Result<Outcome, NoMemory>
     requires there { IsSome (S.bucket_at store.old at) }
     requires alike { AreAlike (children bucket.now) }
-    ensures { IfOk result (IsWritten (S.bucket_at store.old) (S.bucket_at store.new) at (node_of bucket.now)) }
+    ensures ok { IfOk result (IsWritten (S.bucket_at store.old) (S.bucket_at store.new) at (node_of bucket.now)) }
+    ensures stays { S.beside store.new ≡ S.beside store.old }
 {
     store.write(at, bucket)?;
     if bucket.len() == 0 {
@@ -53,6 +54,7 @@ pub fn exchange<S: NodeStore>(
     ensures ok { IfOk result (IsSettled (S.bucket_at store.old) (S.bucket_at store.new) at (with_item (node_of bucket) place new.now)) }
     ensures full { IsErrOf result TreeFault.NoSpace → S.is_full store.new }
     ensures other { IsErrOf result TreeFault.Duplicate → ⊥ }
+    ensures stays { S.beside store.new ≡ S.beside store.old }
 {
     let left = bucket.child(place);
     let after = bucket.child(place + 1);
@@ -78,6 +80,7 @@ fn after_join<S: NodeStore>(
     ensures ok { IfOk result (IsWritten (S.bucket_at store.old) (S.bucket_at store.new) at (joined_above (node_of bucket) place joined)) }
     ensures full { IsErrOf result TreeFault.NoSpace → S.is_full store.new }
     ensures other { IsErrOf result TreeFault.Duplicate → ⊥ }
+    ensures stays { S.beside store.new ≡ S.beside store.old }
 {
     match joined {
         None => {
@@ -108,6 +111,7 @@ fn mend_behind<S: NodeStore>(
     ensures ok { IfOk result (λ r. (w : Scene) → IsAbove w (S.bucket_at store.old) at (node_of bucket) place Thin → IsMended w (S.bucket_at store.new) place r) }
     ensures full { IsErrOf result TreeFault.NoSpace → S.is_full store.new }
     ensures other { IsErrOf result TreeFault.Duplicate → ⊥ }
+    ensures stays { S.beside store.new ≡ S.beside store.old }
 {
     let before = place - 1;
     let left = bucket.child(before);
@@ -135,6 +139,7 @@ fn mend_first<S: NodeStore>(
     ensures ok { IfOk result (λ r. (w : Scene) → IsAbove w (S.bucket_at store.old) at (node_of bucket) 0 Thin → IsMended w (S.bucket_at store.new) 0 r) }
     ensures full { IsErrOf result TreeFault.NoSpace → S.is_full store.new }
     ensures other { IsErrOf result TreeFault.Duplicate → ⊥ }
+    ensures stays { S.beside store.new ≡ S.beside store.old }
 {
     let left = bucket.child(0);
     let right = bucket.child(1);
@@ -156,6 +161,7 @@ fn mend_parted<S: NodeStore>(
     ensures ok { IfOk result (λ r. (w : Scene) → IsAbove w (S.bucket_at store.old) at (node_of bucket) place (Parted up.now) → IsMended w (S.bucket_at store.new) place r) }
     ensures full { IsErrOf result TreeFault.NoSpace → S.is_full store.new }
     ensures other { IsErrOf result TreeFault.Duplicate → ⊥ }
+    ensures stays { S.beside store.new ≡ S.beside store.old }
 {
     let more = settle(
         alloc,
@@ -184,6 +190,7 @@ pub fn mend<S: NodeStore>(
     ensures ok { IfOk result (λ r. (w : Scene) → IsAbove w (S.bucket_at store.old) at (node_of bucket) place outcome → IsMended w (S.bucket_at store.new) place r) }
     ensures full { IsErrOf result TreeFault.NoSpace → S.is_full store.new }
     ensures other { IsErrOf result TreeFault.Duplicate → ⊥ }
+    ensures stays { S.beside store.new ≡ S.beside store.old }
 {
     match outcome {
         Outcome::Whole => Ok(Outcome::Whole),

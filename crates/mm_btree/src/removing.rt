@@ -44,6 +44,7 @@ fn take_last_below<S: NodeStore>(
     ensures ok { IfOk result (λ l. IsLast (S.bucket_at store.old) (S.bucket_at store.new) at height l.pair l.outcome) }
     ensures full { IsErrOf result TreeFault.NoSpace → S.is_full store.new }
     ensures other { IsErrOf result TreeFault.Duplicate → ⊥ }
+    ensures stays { S.beside store.new ≡ S.beside store.old }
 {
     let mut bucket = store.read(at)?;
     let pairs = bucket.len();
@@ -84,6 +85,7 @@ fn take_out<S: NodeStore>(
         → IsOut spec.now (S.bucket_at store.old) (S.bucket_at store.new) at height x r.instead r.outcome) }
     ensures full { IsErrOf result TreeFault.NoSpace → S.is_full store.new }
     ensures other { IsErrOf result TreeFault.Duplicate → ⊥ }
+    ensures stays { S.beside store.new ≡ S.beside store.old }
 {
     if height == 0 {
         bucket.remove_at(place);
@@ -120,6 +122,7 @@ pub fn remove_below<S: NodeStore>(
     ensures place { OnOk result (at ≡ null → ⊥) }
     ensures full { IsErrOf result TreeFault.NoSpace → S.is_full store.new }
     ensures other { IsErrOf result TreeFault.Duplicate → ⊥ }
+    ensures stays { S.beside store.new ≡ S.beside store.old }
 {
     let bucket = store.read(at)?;
     match look_for(&bucket, key, rec, spec) {

@@ -17,7 +17,8 @@ use std::alloc::Global;
 /// Each child, the last one included, gets another parent.
 fn adopt_all<S: NodeStore>(store: &mut S, bucket: &Bucket, up: DiskLoc) -> Result<(), NoMemory>
     requires { AreThere (S.bucket_at store.old) (children bucket.now) }
-    ensures { OnOk result ((q : DiskLoc) → S.bucket_at store.new q ≡ adopted (S.bucket_at store.old) (children bucket.now) up q) }
+    ensures ok { OnOk result ((q : DiskLoc) → S.bucket_at store.new q ≡ adopted (S.bucket_at store.old) (children bucket.now) up q) }
+    ensures stays { S.beside store.new ≡ S.beside store.old }
 {
     let pairs = bucket.len();
     for place in 0..pairs + 1 {
@@ -29,7 +30,8 @@ fn adopt_all<S: NodeStore>(store: &mut S, bucket: &Bucket, up: DiskLoc) -> Resul
 /// Each child of a bucket gets another parent; a leaf has none.
 pub fn adopt<S: NodeStore>(store: &mut S, bucket: &Bucket, up: DiskLoc) -> Result<(), NoMemory>
     requires { AreThere (S.bucket_at store.old) (node_of bucket.now).kids }
-    ensures { OnOk result ((q : DiskLoc) → S.bucket_at store.new q ≡ adopted (S.bucket_at store.old) (node_of bucket.now).kids up q) }
+    ensures ok { OnOk result ((q : DiskLoc) → S.bucket_at store.new q ≡ adopted (S.bucket_at store.old) (node_of bucket.now).kids up q) }
+    ensures stays { S.beside store.new ≡ S.beside store.old }
 {
     if bucket.next().is_null() {
         return Ok(());
@@ -52,6 +54,7 @@ fn part<S: NodeStore>(
     ensures ok { IfOk result (λ u. (w : Contents) → IsParted w left right.now → AreAlike (children w) → IsSettled (S.bucket_at store.old) (S.bucket_at store.new) at (node_of w) (Some u)) }
     ensures full { IsErrOf result TreeFault.NoSpace → S.is_full store.new }
     ensures other { IsErrOf result TreeFault.Duplicate → ⊥ }
+    ensures stays { S.beside store.new ≡ S.beside store.old }
 {
     let key = Vec::from_slice(alloc, left.key(last))?;
     let record = left.rec(last);
@@ -82,6 +85,7 @@ pub fn settle<S: NodeStore>(
     ensures ok { IfOk result (IsSettled (S.bucket_at store.old) (S.bucket_at store.new) at (node_of (with_pair bucket place key.now rec after))) }
     ensures full { IsErrOf result TreeFault.NoSpace → S.is_full store.new }
     ensures other { IsErrOf result TreeFault.Duplicate → ⊥ }
+    ensures stays { S.beside store.new ≡ S.beside store.old }
 {
     let mut right = Bucket::new(DiskLoc::NULL);
     match bucket.put(place, key, rec, after, &mut right) {

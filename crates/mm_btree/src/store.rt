@@ -19,6 +19,11 @@ pub trait NodeStore {
     /// No bucket more has room.
     ghost is_full: { Self → Type 0 };
 
+    /// What a store has beside its buckets, as what it was made of. No call changes it, not even one that gives up.
+    ghost Beside: { Type 0 };
+
+    ghost beside: { Self → Self.Beside };
+
     /// The bucket at a place that has one.
     fn read(&self, at: DiskLoc) -> Result<Bucket, NoMemory>
         requires { IsSome (bucket_at self.now at) }
@@ -30,12 +35,14 @@ pub trait NodeStore {
     fn write(&mut self, at: DiskLoc, bucket: &Bucket) -> Result<(), NoMemory>
         requires there { IsSome (bucket_at self.old at) }
         requires alike { AreAlike (children bucket.now) }
-        ensures { OnOk result ((q : Place) → bucket_at self.new q ≡ put (bucket_at self.old) at (Some (node_of bucket.now)) q) };
+        ensures same { OnOk result ((q : Place) → bucket_at self.new q ≡ put (bucket_at self.old) at (Some (node_of bucket.now)) q) }
+        ensures stays { beside self.new ≡ beside self.old };
 
     /// Writes the parent of the bucket that is there, these bytes alone.
     fn set_parent(&mut self, at: DiskLoc, up: DiskLoc) -> Result<(), NoMemory>
         requires { IsSome (bucket_at self.old at) }
-        ensures { OnOk result ((q : Place) → bucket_at self.new q ≡ put (bucket_at self.old) at (with_parent up (bucket_at self.old at)) q) };
+        ensures same { OnOk result ((q : Place) → bucket_at self.new q ≡ put (bucket_at self.old) at (with_parent up (bucket_at self.old at)) q) }
+        ensures stays { beside self.new ≡ beside self.old };
 
     /// Takes a place that no bucket has, and writes a bucket there.
     fn add(&mut self, bucket: &Bucket) -> Result<DiskLoc, TreeFault>
@@ -44,10 +51,12 @@ pub trait NodeStore {
         ensures place { IfOk result (λ at. at ≡ null → ⊥) }
         ensures same { IfOk result (λ at. (q : Place) → bucket_at self.new q ≡ put (bucket_at self.old) at (Some (node_of bucket.now)) q) }
         ensures full { IsErrOf result TreeFault.NoSpace → is_full self.new }
-        ensures other { IsErrOf result TreeFault.Duplicate → ⊥ };
+        ensures other { IsErrOf result TreeFault.Duplicate → ⊥ }
+        ensures stays { beside self.new ≡ beside self.old };
 
     /// Gives the place of a bucket back.
     fn free(&mut self, at: DiskLoc) -> Result<(), NoMemory>
         requires { IsSome (bucket_at self.old at) }
-        ensures { OnOk result ((q : Place) → bucket_at self.new q ≡ put (bucket_at self.old) at None q) };
+        ensures same { OnOk result ((q : Place) → bucket_at self.new q ≡ put (bucket_at self.old) at None q) }
+        ensures stays { beside self.new ≡ beside self.old };
 }

@@ -84,6 +84,7 @@ pub fn insert<S: NodeStore>(
         → IsTrue unique × IsSome (first_with spec.now (document_in key.now) s.pairs) }
     ensures kept { IsErrOf result TreeFault.Duplicate → store.new ≡ store.old }
     ensures full { IsErrOf result TreeFault.NoSpace → S.is_full store.new }
+    ensures stays { S.beside store.new ≡ S.beside store.old }
 {
     if is_taken(store, spec, root, height, key, unique)? {
         return Err(TreeFault::Duplicate);

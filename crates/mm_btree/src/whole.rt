@@ -37,6 +37,7 @@ fn lower<S: NodeStore>(store: &mut S, root: DiskLoc, height: u32) -> Result<Root
     ensures ok { IfOk result (λ r. (lt : Item → Item → Bool) (m : Buckets) (s : Sub) (list : List Item) → IsRootLeft m (S.bucket_at store.old) height s list root Thin → Sorted lt list
         → (t : Sub) × IsChanged lt m (S.bucket_at store.new) r.place r.height s list t) }
     ensures low { IfOk result (λ r. r.height ≤ height) }
+    ensures stays { S.beside store.new ≡ S.beside store.old }
 {
     let bucket = store.read(root)?;
     let kid = bucket.next();
@@ -63,6 +64,7 @@ fn settle_root<S: NodeStore>(
     ensures low { IfOk result (λ r. r.height ≤ height + 1) }
     ensures full { IsErrOf result TreeFault.NoSpace → S.is_full store.new }
     ensures other { IsErrOf result TreeFault.Duplicate → ⊥ }
+    ensures stays { S.beside store.new ≡ S.beside store.old }
 {
     match outcome {
         Outcome::Whole => Ok(Root {
@@ -107,6 +109,7 @@ fn exchange_pair<S: NodeStore>(
         → (t : Sub) × IsChanged (item_lt spec.now) (S.bucket_at store.old) (S.bucket_at store.new) r.place r.height s (exchanged spec.now (record { key = key.now; rec = rec }) new.now s.pairs) t) }
     ensures full { IsErrOf result TreeFault.NoSpace → S.is_full store.new }
     ensures other { IsErrOf result TreeFault.Duplicate → ⊥ }
+    ensures stays { S.beside store.new ≡ S.beside store.old }
 {
     match exchange_below(alloc, store, spec, root.place, root.height, key, rec, new)? {
         None => Ok(root),
@@ -137,6 +140,7 @@ fn stand_in<S: NodeStore>(
         → (u : Sub) × IsChanged (item_lt spec.now) m (S.bucket_at store.new) r.place r.height s (without spec.now (record { key = key.now; rec = rec }) s.pairs) u) }
     ensures full { IsErrOf result TreeFault.NoSpace → S.is_full store.new }
     ensures other { IsErrOf result TreeFault.Duplicate → ⊥ }
+    ensures stays { S.beside store.new ≡ S.beside store.old }
 {
     match instead {
         None => Ok(root),
@@ -168,6 +172,7 @@ pub fn remove<S: NodeStore>(
     ensures kept { IfOk result (λ r. r ≡ None → store.new ≡ store.old) }
     ensures full { IsErrOf result TreeFault.NoSpace → S.is_full store.new }
     ensures other { IsErrOf result TreeFault.Duplicate → ⊥ }
+    ensures stays { S.beside store.new ≡ S.beside store.old }
 {
     match remove_below(alloc, store, spec, root, height, key, rec)? {
         None => Ok(None),

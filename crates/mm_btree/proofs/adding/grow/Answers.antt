@@ -13,4 +13,4 @@ adopt-requires g c =
 pub returns-clause-same : goal.returns-clause-same
 returns-clause-same g c =
     let node = g.S.NodeStore.bucket_at in
-    root_done (node c.args.store.now) (node c.add.new.self) (node c.adopt.new.store) c.args.root c.in_ok-place.place c.args.up.now (node_of c.over-bucket.result) c.over-bucket.ensures.node c.in_ok-place.ensures.same c.in_ok-adopt.ensures
+    root_done (node c.args.store.now) (node c.add.new.self) (node c.adopt.new.store) c.args.root c.in_ok-place.place c.args.up.now (node_of c.over-bucket.result) c.over-bucket.ensures.node c.in_ok-place.ensures.same c.in_ok-adopt.ensures.ok

@@ -22,13 +22,13 @@ pub fold-requires-clause-left : goal.fold-requires-clause-left
 fold-requires-clause-left g c =
     let node = g.S.NodeStore.bucket_at in
     let k = c.requires.two in
-    adopted_some (node c.args.store.now) (node c.adopt.new.store) (node_of c.in_ok-thin.thin).kids c.args.left c.args.left c.in_ok-adopt.ensures (seen_some (node c.args.store.now) c.args.left k.0 k.2.left)
+    adopted_some (node c.args.store.now) (node c.adopt.new.store) (node_of c.in_ok-thin.thin).kids c.args.left c.args.left c.in_ok-adopt.ensures.ok (seen_some (node c.args.store.now) c.args.left k.0 k.2.left)
 
 pub fold-requires-clause-right : goal.fold-requires-clause-right
 fold-requires-clause-right g c =
     let node = g.S.NodeStore.bucket_at in
     let k = c.requires.two in
-    adopted_some (node c.args.store.now) (node c.adopt.new.store) (node_of c.in_ok-thin.thin).kids c.args.left c.args.right c.in_ok-adopt.ensures (seen_some (node c.args.store.now) c.args.right k.1 k.2.right)
+    adopted_some (node c.args.store.now) (node c.adopt.new.store) (node_of c.in_ok-thin.thin).kids c.args.left c.args.right c.in_ok-adopt.ensures.ok (seen_some (node c.args.store.now) c.args.right k.1 k.2.right)
 
 pub fold-requires-clause-apart : goal.fold-requires-clause-apart
 fold-requires-clause-apart g c = c.requires.two.2.apart
@@ -48,10 +48,10 @@ fold-requires-clause-kids g c =
     let w = c.in_ok-whole.whole in
     let t = c.in_ok-thin.thin in
     let one = behind_one m c.args.left c.args.right k.0 k.1 w t c.len-place.result c.args.key.now c.args.rec c.next.result k.2 k.3 c.in_ok-whole.ensures.bucket c.in_ok-thin.ensures.bucket c.in_ok-whole.ensures.alike c.len-place.ensures.len c.next.ensures in
-    one_kids m (node c.adopt.new.store) c.args.left c.args.right k.0 k.1 w t (with_pair w c.len-place.result c.args.key.now c.args.rec c.next.result) y k.2 c.in_ok-whole.ensures.bucket c.in_ok-thin.ensures.bucket c.in_ok-adopt.ensures one
+    one_kids m (node c.adopt.new.store) c.args.left c.args.right k.0 k.1 w t (with_pair w c.len-place.result c.args.key.now c.args.rec c.next.result) y k.2 c.in_ok-whole.ensures.bucket c.in_ok-thin.ensures.bucket c.in_ok-adopt.ensures.ok one
 
-pub returns : goal.returns
-returns g c =
+pub returns-clause-ok : goal.returns-clause-ok
+returns-clause-ok g c =
     let node = g.S.NodeStore.bucket_at in
     let m = node c.args.store.now in
     let n = node c.adopt.new.store in
@@ -63,6 +63,6 @@ returns g c =
     let right = c.args.right in
     let v = with_pair w c.len-place.result c.args.key.now c.args.rec c.next.result in
     IfOk-weaker c.fold.result (λ r. IsSettled (put n right None) o left (node_of v) (up_at right r)) (λ r. (b d : Node) → AreNeighbours m left right b d → d.pairs ≡ [] → IsJoined m o left right b y d r)
-    (λ r s b d k none. one_joined m n o left right b d w t v y r k c.in_ok-whole.ensures.bucket c.in_ok-thin.ensures.bucket c.in_ok-adopt.ensures
+    (λ r s b d k none. one_joined m n o left right b d w t v y r k c.in_ok-whole.ensures.bucket c.in_ok-thin.ensures.bucket c.in_ok-adopt.ensures.ok
     (behind_one m left right b d w t c.len-place.result c.args.key.now c.args.rec c.next.result k none c.in_ok-whole.ensures.bucket c.in_ok-thin.ensures.bucket c.in_ok-whole.ensures.alike c.len-place.ensures.len c.next.ensures) s)
-    c.fold.ensures
+    c.fold.ensures.ok

@@ -15,7 +15,7 @@ write-requires-clause-alike g c =
 pub write-requires-2-clause-there : goal.write-requires-2-clause-there
 write-requires-2-clause-there g c =
     let node = g.S.NodeStore.bucket_at in
-    subst IsSome (sym (c.in_ok-write.ensures c.args.left)) (put_there (node c.args.store.now) c.args.right c.args.left (node_of c.args.rest.now) c.requires.left)
+    subst IsSome (sym (c.in_ok-write.ensures.same c.args.left)) (put_there (node c.args.store.now) c.args.right c.args.left (node_of c.args.rest.now) c.requires.left)
 
 pub write-requires-2-clause-alike : goal.write-requires-2-clause-alike
 write-requires-2-clause-alike g c =
@@ -27,13 +27,13 @@ adopt-requires g c =
     let node = g.S.NodeStore.bucket_at in
     let w = c.requires.whole in
     right_ready (node c.args.store.now) (node c.write.new.self) (node c.write-2.new.self) c.args.left c.args.right w.0 c.args.whole c.remove_at.new.self c.args.rest.now c.args.last
-    w.1 c.requires.last w.2 w.3 c.remove_at.ensures c.in_ok-write.ensures c.in_ok-write-2.ensures
+    w.1 c.requires.last w.2 w.3 c.remove_at.ensures c.in_ok-write.ensures.same c.in_ok-write-2.ensures.same
 
-pub returns : goal.returns
-returns g c =
+pub returns-clause-ok : goal.returns-clause-ok
+returns-clause-ok g c =
     let node = g.S.NodeStore.bucket_at in
     let m = put (node c.args.store.now) c.args.right None in
     λ w p a. part_done m (node c.write.new.self) (node c.write-2.new.self) (node c.adopt.new.store) c.args.left c.args.right w c.args.whole c.remove_at.new.self c.args.rest.now c.args.last
     (record { mid = c.in_ok-mid.mid; right = c.args.right }) c.in_ok-mid.mid.key c.in_ok-mid.mid.rec p c.requires.last a c.remove_at.ensures (rw (place_eq-is c.args.right c.args.right refl) refl)
-    (λ q. c.in_ok-write.ensures q ∙ put_over (node c.args.store.now) c.args.right q (Some (node_of c.args.rest.now))) c.in_ok-write-2.ensures c.in_ok-adopt.ensures
+    (λ q. c.in_ok-write.ensures.same q ∙ put_over (node c.args.store.now) c.args.right q (Some (node_of c.args.rest.now))) c.in_ok-write-2.ensures.same c.in_ok-adopt.ensures.ok
     refl (ap (λ (i : Item). i.key) c.in_ok-mid.ensures) (ap (λ (i : Item). i.rec) c.in_ok-mid.ensures)

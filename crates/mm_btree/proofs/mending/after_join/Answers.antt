@@ -29,7 +29,7 @@ returns-in_ok-outcome-in-None-clause-ok g c =
     let i = c.args.place in
     let same = closed_is b c.set_child.new.self c.remove_at.new.self i c.child-left.result c.set_child.ensures c.remove_at.ensures c.child-left.ensures in
     let whole : node_of c.remove_at.new.self ≡ after_join (node_of b) i c.args.joined = ap node_of same ∙ (closed_node b i c.requires.place c.requires.alike c.requires.inner ∙ ap (after_join (node_of b) i) (sym c.in-None.is)) in
-    subst (λ (z : Node). IsWritten m n c.args.at z c.in_ok-outcome-in-None.outcome) whole c.in_ok-outcome-in-None.ensures
+    subst (λ (z : Node). IsWritten m n c.args.at z c.in_ok-outcome-in-None.outcome) whole c.in_ok-outcome-in-None.ensures.ok
 
 pub returns-in_ok-up-in-Some-clause-ok : goal.returns-in_ok-up-in-Some-clause-ok
 returns-in_ok-up-in-Some-clause-ok g c =

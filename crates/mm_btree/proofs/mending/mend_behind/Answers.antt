@@ -33,7 +33,7 @@ after_join-requires-clause-there g c =
     let w = c.requires.above in
     let y : Item = record { key = c.key.result.now; rec = c.rec.result } in
     let mid : ◌≡◌ {A = Item} y (item_of (pair_at c.args.bucket.pairs (c.args.place - 1))) = λ j. record { key = c.key.ensures.is j; rec = c.rec.ensures j } in
-    let k = behind_waits w.0 n (node c.join_behind.new.store) c.args.at c.args.bucket c.args.place c.child-left.result c.child-right.result y c.in_ok-joined.joined c.requires.some w.1 c.child-left.ensures c.child-right.ensures mid c.in_ok-joined.ensures in
+    let k = behind_waits w.0 n (node c.join_behind.new.store) c.args.at c.args.bucket c.args.place c.child-left.result c.child-right.result y c.in_ok-joined.joined c.requires.some w.1 c.child-left.ensures c.child-right.ensures mid c.in_ok-joined.ensures.ok in
     waits_there w.0 n (node c.join_behind.new.store) c.args.at (node_of c.args.bucket) c.args.place (c.args.place - 1) c.in_ok-joined.joined Thin (list_above w.0.ps w.0.cs c.args.place w.0.mine) w.1 k
 
 pub after_join-requires-clause-place : goal.after_join-requires-clause-place
@@ -49,7 +49,7 @@ after_join-requires-clause-kids g c =
     let w = c.requires.above in
     let y : Item = record { key = c.key.result.now; rec = c.rec.result } in
     let mid : ◌≡◌ {A = Item} y (item_of (pair_at c.args.bucket.pairs (c.args.place - 1))) = λ j. record { key = c.key.ensures.is j; rec = c.rec.ensures j } in
-    let k = behind_waits w.0 n (node c.join_behind.new.store) c.args.at c.args.bucket c.args.place c.child-left.result c.child-right.result y c.in_ok-joined.joined c.requires.some w.1 c.child-left.ensures c.child-right.ensures mid c.in_ok-joined.ensures in
+    let k = behind_waits w.0 n (node c.join_behind.new.store) c.args.at c.args.bucket c.args.place c.child-left.result c.child-right.result y c.in_ok-joined.joined c.requires.some w.1 c.child-left.ensures c.child-right.ensures mid c.in_ok-joined.ensures.ok in
     λ z e. waits_kids w.0 (node c.join_behind.new.store) (node_of c.args.bucket) (c.args.place - 1) c.in_ok-joined.joined z (list_above w.0.ps w.0.cs c.args.place w.0.mine) e k
 
 pub returns-clause-ok : goal.returns-clause-ok
@@ -64,5 +64,5 @@ returns-clause-ok g c =
     let mid : ◌≡◌ {A = Item} y (item_of (pair_at b.pairs (i - 1))) = λ j. record { key = c.key.ensures.is j; rec = c.rec.ensures j } in
     let r = c.in_ok-joined.joined in
     IfOk-weaker c.after_join.result (IsWritten o o2 c.args.at (after_join (node_of b) (i - 1) r)) (λ out. (w : Scene) → IsAbove w n c.args.at (node_of b) i Thin → IsMended w o2 i out)
-    (λ out s w v. mended_at w n o o2 c.args.at b i (i - 1) r out v (behind_waits w n o c.args.at b i c.child-left.result c.child-right.result y r c.requires.some v c.child-left.ensures c.child-right.ensures mid c.in_ok-joined.ensures) s)
+    (λ out s w v. mended_at w n o o2 c.args.at b i (i - 1) r out v (behind_waits w n o c.args.at b i c.child-left.result c.child-right.result y r c.requires.some v c.child-left.ensures c.child-right.ensures mid c.in_ok-joined.ensures.ok) s)
     c.after_join.ensures.ok

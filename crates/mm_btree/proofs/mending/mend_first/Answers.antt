@@ -33,7 +33,7 @@ after_join-requires-clause-there g c =
     let w = c.requires.above in
     let y : Item = record { key = c.key.result.now; rec = c.rec.result } in
     let mid : ◌≡◌ {A = Item} y (item_of (pair_at c.args.bucket.pairs 0)) = λ j. record { key = c.key.ensures.is j; rec = c.rec.ensures j } in
-    let k = first_waits w.0 n (node c.join_before.new.store) c.args.at c.args.bucket c.child-left.result c.child-right.result y c.in_ok-joined.joined w.1 c.child-left.ensures c.child-right.ensures mid c.in_ok-joined.ensures in
+    let k = first_waits w.0 n (node c.join_before.new.store) c.args.at c.args.bucket c.child-left.result c.child-right.result y c.in_ok-joined.joined w.1 c.child-left.ensures c.child-right.ensures mid c.in_ok-joined.ensures.ok in
     waits_there w.0 n (node c.join_before.new.store) c.args.at (node_of c.args.bucket) 0 0 c.in_ok-joined.joined Thin (list_above w.0.ps w.0.cs 0 w.0.mine) w.1 k
 
 pub after_join-requires-clause-place : goal.after_join-requires-clause-place
@@ -49,7 +49,7 @@ after_join-requires-clause-kids g c =
     let w = c.requires.above in
     let y : Item = record { key = c.key.result.now; rec = c.rec.result } in
     let mid : ◌≡◌ {A = Item} y (item_of (pair_at c.args.bucket.pairs 0)) = λ j. record { key = c.key.ensures.is j; rec = c.rec.ensures j } in
-    let k = first_waits w.0 n (node c.join_before.new.store) c.args.at c.args.bucket c.child-left.result c.child-right.result y c.in_ok-joined.joined w.1 c.child-left.ensures c.child-right.ensures mid c.in_ok-joined.ensures in
+    let k = first_waits w.0 n (node c.join_before.new.store) c.args.at c.args.bucket c.child-left.result c.child-right.result y c.in_ok-joined.joined w.1 c.child-left.ensures c.child-right.ensures mid c.in_ok-joined.ensures.ok in
     λ z e. waits_kids w.0 (node c.join_before.new.store) (node_of c.args.bucket) 0 c.in_ok-joined.joined z (list_above w.0.ps w.0.cs 0 w.0.mine) e k
 
 pub returns-clause-ok : goal.returns-clause-ok
@@ -63,5 +63,5 @@ returns-clause-ok g c =
     let mid : ◌≡◌ {A = Item} y (item_of (pair_at b.pairs 0)) = λ j. record { key = c.key.ensures.is j; rec = c.rec.ensures j } in
     let r = c.in_ok-joined.joined in
     IfOk-weaker c.after_join.result (IsWritten o o2 c.args.at (after_join (node_of b) 0 r)) (λ out. (w : Scene) → IsAbove w n c.args.at (node_of b) 0 Thin → IsMended w o2 0 out)
-    (λ out s w v. mended_at w n o o2 c.args.at b 0 0 r out v (first_waits w n o c.args.at b c.child-left.result c.child-right.result y r v c.child-left.ensures c.child-right.ensures mid c.in_ok-joined.ensures) s)
+    (λ out s w v. mended_at w n o o2 c.args.at b 0 0 r out v (first_waits w n o c.args.at b c.child-left.result c.child-right.result y r v c.child-left.ensures c.child-right.ensures mid c.in_ok-joined.ensures.ok) s)
     c.after_join.ensures.ok

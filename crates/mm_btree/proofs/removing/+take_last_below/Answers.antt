@@ -40,7 +40,7 @@ returns-then-height-eq0-clause-ok g t c =
     let i = c.len-pairs.result - 1 in
     let last : i + 1 ≡ length b.pairs = omega (arith, some, c.len-pairs.ensures.len) in
     last_of_leaf m (node c.write_left.new.store) c.args.at c.args.height b c.remove_at.new.self i c.in_ok-pair.pair c.in_ok-left.left c.if-height-eq0.true c.in_ok-bucket.ensures.bucket last c.remove_at.ensures c.in_ok-pair.ensures
-    c.in_ok-left.ensures
+    c.in_ok-left.ensures.ok
 
 -- ---- above one
 

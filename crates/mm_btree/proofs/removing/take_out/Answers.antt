@@ -15,7 +15,7 @@ pub returns-then-height-eq0-clause-ok : goal.returns-then-height-eq0-clause-ok
 returns-then-height-eq0-clause-ok g c =
     let node = g.S.NodeStore.bucket_at in
     λ x t. out_of_leaf c.args.spec.now (node c.args.store.now) (node c.write_left.new.store) c.args.at c.args.height c.args.bucket c.remove_at.new.self c.args.place x c.in_ok-left.left c.if-height-eq0.true c.requires.bucket t c.remove_at.ensures
-    c.in_ok-left.ensures
+    c.in_ok-left.ensures.ok
 
 pub take_last_below-requires : goal.take_last_below-requires
 take_last_below-requires g c =

@@ -17,13 +17,13 @@ adopt_all-requires g c =
     let f = λ (e : c.args.bucket.now.next ≡ null). not_true c.is_null.result (c.is_null.ensures.1 (c.next.ensures ∙ e)) c.if-is_null.false in
     subst (AreThere (g.S.NodeStore.bucket_at c.args.store.now)) (kids_all c.args.bucket.now f) c.requires
 
-pub returns-then-is_null : goal.returns-then-is_null
-returns-then-is_null g c =
+pub returns-then-is_null-clause-ok : goal.returns-then-is_null-clause-ok
+returns-then-is_null-clause-ok g c =
     λ q. adopted_none (g.S.NodeStore.bucket_at c.args.store.now) (node_of c.args.bucket.now).kids c.args.up (kids_none c.args.bucket.now (sym c.next.ensures ∙ c.is_null.ensures.0 c.if-is_null.true)) q
 
-pub returns : goal.returns
-returns g c =
+pub returns-clause-ok : goal.returns-clause-ok
+returns-clause-ok g c =
     let m = g.S.NodeStore.bucket_at c.args.store.now in
     let n = g.S.NodeStore.bucket_at c.adopt_all.new.store in
     let f = λ (e : c.args.bucket.now.next ≡ null). not_true c.is_null.result (c.is_null.ensures.1 (c.next.ensures ∙ e)) c.if-is_null.false in
-    subst (λ (xs : List DiskLoc). OnOk c.adopt_all.result ((q : DiskLoc) → n q ≡ adopted m xs c.args.up q)) (sym (kids_all c.args.bucket.now f)) c.adopt_all.ensures
+    subst (λ (xs : List DiskLoc). OnOk c.adopt_all.result ((q : DiskLoc) → n q ≡ adopted m xs c.args.up q)) (sym (kids_all c.args.bucket.now f)) c.adopt_all.ensures.ok

@@ -24,11 +24,11 @@ adopt-requires g c =
     let node = g.S.NodeStore.bucket_at in
     let w = c.requires.whole in
     right_ready (node c.args.store.now) (node c.add.new.self) (node c.write.new.self) c.args.at c.in_ok-place.place w.0 c.args.left c.remove_at.new.self c.args.right.now c.args.last
-    w.1 c.requires.last w.2 w.3 c.remove_at.ensures c.in_ok-place.ensures.same c.in_ok-write.ensures
+    w.1 c.requires.last w.2 w.3 c.remove_at.ensures c.in_ok-place.ensures.same c.in_ok-write.ensures.same
 
 pub returns-clause-ok : goal.returns-clause-ok
 returns-clause-ok g c =
     let node = g.S.NodeStore.bucket_at in
     λ w p a. part_done (node c.args.store.now) (node c.add.new.self) (node c.write.new.self) (node c.adopt.new.store) c.args.at c.in_ok-place.place w c.args.left c.remove_at.new.self c.args.right.now c.args.last
-    c.made.result c.in_ok-key.key.items c.rec-record.result p c.requires.last a c.remove_at.ensures c.in_ok-place.ensures.free c.in_ok-place.ensures.same c.in_ok-write.ensures c.in_ok-adopt.ensures
+    c.made.result c.in_ok-key.key.items c.rec-record.result p c.requires.last a c.remove_at.ensures c.in_ok-place.ensures.free c.in_ok-place.ensures.same c.in_ok-write.ensures.same c.in_ok-adopt.ensures.ok
     c.made.ensures (c.in_ok-key.ensures.items ∙ c.key.ensures.is) c.rec-record.ensures

@@ -17,7 +17,7 @@ part-requires-clause-whole g c = (with_pair c.args.bucket c.args.place c.args.ke
 pub returns-in_ok-write-in-None-clause-ok : goal.returns-in_ok-write-in-None-clause-ok
 returns-in_ok-write-in-None-clause-ok g c =
     let m = g.S.NodeStore.bucket_at c.args.store.now in
-    λ q. c.in_ok-write-in-None.ensures q ∙ ap (λ (z : Contents). put m c.args.at (Some (node_of z)) q) c.in-None.ensures.whole
+    λ q. c.in_ok-write-in-None.ensures.same q ∙ ap (λ (z : Contents). put m c.args.at (Some (node_of z)) q) c.in-None.ensures.whole
 
 pub returns-in_ok-up-in-Some-clause-ok : goal.returns-in_ok-up-in-Some-clause-ok
 returns-in_ok-up-in-Some-clause-ok g c =

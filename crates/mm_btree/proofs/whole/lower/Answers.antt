@@ -17,7 +17,7 @@ pub set_parent-requires : goal.set_parent-requires
 set_parent-requires g c =
     let node = g.S.NodeStore.bucket_at in
     let w = c.requires.thin in
-    thin_kid_some w.0 (node c.args.store.now) (node c.free.new.self) c.args.root c.next-kid.result c.args.height w.1 w.2 c.in_ok-bucket.bucket c.requires.high w.3 c.in_ok-bucket.ensures.bucket c.next-kid.ensures c.in_ok-free.ensures
+    thin_kid_some w.0 (node c.args.store.now) (node c.free.new.self) c.args.root c.next-kid.result c.args.height w.1 w.2 c.in_ok-bucket.bucket c.requires.high w.3 c.in_ok-bucket.ensures.bucket c.next-kid.ensures c.in_ok-free.ensures.same
 
 pub returns-clause-ok : goal.returns-clause-ok
 returns-clause-ok g c =
@@ -28,5 +28,5 @@ returns-clause-ok g c =
     let b = c.in_ok-bucket.bucket in
     let kid = c.next-kid.result in
     λ lt m s list v so. lowered lt m n n1 o c.args.root kid c.args.height s list (node_of b) c.requires.high v so c.in_ok-bucket.ensures.bucket
-    (thin_kid m n c.args.root c.args.height s list b c.requires.high v c.in_ok-bucket.ensures.bucket ∙ ap (λ (q : DiskLoc). q ∷ []) (sym c.next-kid.ensures)) c.in_ok-free.ensures
-    (λ q. c.in_ok-set_parent.ensures q ∙ ap (λ (p : DiskLoc). put n1 kid (with_parent p (n1 kid)) q) (place_same _ null refl refl))
+    (thin_kid m n c.args.root c.args.height s list b c.requires.high v c.in_ok-bucket.ensures.bucket ∙ ap (λ (q : DiskLoc). q ∷ []) (sym c.next-kid.ensures)) c.in_ok-free.ensures.same
+    (λ q. c.in_ok-set_parent.ensures.same q ∙ ap (λ (p : DiskLoc). put n1 kid (with_parent p (n1 kid)) q) (place_same _ null refl refl))
