@@ -11,9 +11,9 @@ use Rattle.mm_held.specs.declared.fault.Refused.{Refused}
 use Rattle.mm_held.specs.declared.fault.Refused.TheVariants.{GroupFull, NoMemory as NoneLeft}
 use Rattle.mm_held.specs.Meaning.{Meaning, Stored}
 use Rattle.mm_held.specs.History.{IsReply, moved}
-use Rattle.mm_held.specs.Steps.{IsCarriedOut, IsAnswered, IsStep, IsCause}
+use Rattle.mm_held.specs.Steps.{IsCarriedOut, IsAnswered, IsLimited, IsStep, IsCause}
 use Rattle.mm_held.specs.Fates.{AreSame, IsReady, IsTwice, IsWeighed, IsTooMuch, IsAdoptedFor, IsGivenUpFor, IsFate, weight_of}
-use Rattle.mm_held.proofs.Replies.{carried_out, replied, kept, ok_reply, ok_moved}
+use Rattle.mm_held.proofs.Replies.{carried_out, replied, limited, kept, ok_reply, ok_moved}
 
 -- a draft that was only reserved weighs the same
 same_weight : (mid new : Drafting) → AreSame mid new → weight_of mid ≡ weight_of new
@@ -38,12 +38,14 @@ module _ (m : Meaning) (db : Stored) (c : Command) (old mid new : Drafting) (r :
   weighed_fate (Adopted answer) w = record {
     twice = w.kept ∙ sym w.reply;
     done = ap is_ok w.reply ∙ ok;
+    limit = subst (IsLimited m old.image c) (sym w.reply) (limited m db c old mid r answered);
     carried = subst (IsCarriedOut m db c old new) (sym w.reply) carried_there;
   }
   weighed_fate (GivenUp answer) w = record {
     twice = w.0.kept ∙ sym w.0.reply;
     refused = ap is_ok w.0.reply;
     reply = subst (IsReply m (m.room old.image) db c) (sym w.0.reply) (w.1, record { image = old.image; stands = stands; room = omega arith; done = done; cause = carried.weight });
+    limit = subst (IsLimited m old.image c) (sym w.0.reply) (w.1, carried.weight);
     kept = ap (moved m db c) w.0.reply;
   }
 
@@ -57,6 +59,7 @@ given_up m db c old new r answer is stands answered t = record {
   twice = t.kept ∙ sym t.reply;
   refused = ap is_ok t.reply ∙ is;
   reply = subst (IsReply m (m.room old.image) db c) (sym t.reply) (replied m db c old new r is stands answered);
+  limit = subst (IsLimited m old.image c) (sym t.reply) (limited m db c old new r answered);
   kept = ap (moved m db c) t.reply ∙ kept m db c old new r is answered;
 }
 
@@ -67,6 +70,7 @@ pub adopted_step : (m : Meaning) (db : Stored) (c : Command) (views : State) (d 
     → IsStep m db c views s answer.reply
 adopted_step m db c views d s answer used a v ready is weight weighed = record {
   reply = ok_reply m (m.room s.private) db c answer.reply a.done a.carried.reply;
+  limit = a.limit;
   stands = subst (m.stands s.private) (sym (ok_moved m db c answer.reply a.done)) (subst (λ image. m.stands image (m.after db c).1) (sym is.private) a.carried.stands);
   room = subst (λ image. m.room image ≤ m.room views.private) (sym is.private) a.carried.room;
   shared = is.shared ∙ ap (λ (w : State). w.shared) v;
@@ -80,6 +84,7 @@ pub given_up_step : (m : Meaning) (db : Stored) (c : Command) (views s : State) 
     → IsGivenUpFor m db c (drafting_of views) answer → m.stands views.private db → s ≡ views → IsStep m db c views s answer.reply
 given_up_step m db c views s answer a stands same = subst (λ w. IsStep m db c views w answer.reply) (sym same) (record {
   reply = a.reply;
+  limit = a.limit;
   stands = subst (m.stands views.private) (sym a.kept) stands;
   room = omega arith;
   shared = refl;

@@ -11,11 +11,11 @@ use Rattle.mm_tie.specs.declared.ends.Giver.{Giver}
 use Rattle.mm_held.specs.declared.pass.Mark.{Mark}
 use Rattle.mm_held.specs.Meaning.{Meaning, Stored}
 use Rattle.mm_held.specs.History.{fold, AreReplies}
-use Rattle.mm_held.specs.Images.{Imaged, opening, item}
-use Rattle.mm_held.specs.Log.{closed_groups, open_group, joined, marks_in, sum, AllGiven}
+use Rattle.mm_held.specs.Images.{Imaged, IsImaged, opening, item}
+use Rattle.mm_held.specs.Log.{closed_groups, open_group, joined, marks_in, sum, AllGiven, AreOfSessions}
 use Rattle.mm_held.specs.Held.{HeldView, IsHeld, IsSound, IsTold, Closes, Telling, held_view, log_of, all_marks, section_of}
 use Rattle.mm_held.proofs.Groups.{sum_push, take_push, drop_push, all_groups, open_len, close_groups, close_open, count_groups}
-use Rattle.mm_held.proofs.Marks.{marks_closed}
+use Rattle.mm_held.proofs.Marks.{marks_closed, in_turn}
 
 -- how many entries wait
 pub how_many : (counts : List ℕ) (log : List Entry) (closed n : ℕ) → closed ≡ sum counts → closed ≤ length log → n + closed ≡ length log → n ≡ length (open_group counts log)
@@ -90,8 +90,17 @@ module _ {E P : Type 0} (m : Meaning) (t : Telling P) (engine : E) (p : Option P
         (subst (λ (is : List Closed). m.stands (image_of is) (fold m db (joined (before.groups ++ before.waiting ∷ [])))) items (at_end db h whole)))
   ]
 
-  close_held : image_of new.given ≡ old.views.private → IsHeld m t after
-  close_held whole = record {
+  same_marks : all_marks after ≡ all_marks before
+  same_marks =
+      ap (λ (groups : List (List Entry)). marks_in 0 (old.first + 1) (groups ++ after.waiting ∷ [])) groups_are
+      ∙ (ap (λ es. marks_in 0 (old.first + 1) ((before.groups ++ before.waiting ∷ []) ++ es ∷ [])) none_waits
+      ∙ marks_closed 0 (old.first + 1) before.groups before.waiting)
+
+  close_held : image_of new.given ≡ old.views.private → IsImaged new → IsHeld m t after
+  close_held whole imaged = record {
+    imaged = imaged;
+    seated = subst (AreOfSessions (length after.rooms)) (sym same_log) s.held.seated;
+    lines = in_turn givers (all_marks after) (subst (AllGiven givers) (sym same_marks) s.given);
     some = (s.held.some.0, subst (λ (items : List Closed). m.stands (image_of items) s.held.some.0) (sym same_first) s.held.some.1);
     private = λ db h. subst (λ es. m.stands old.views.private (fold m db es)) (sym same_log) (s.held.private db (loaded db h));
     replies = λ db h. subst (AreReplies m (m.room old.views.private) db) (sym same_log) (s.held.replies db (loaded db h));
@@ -106,13 +115,13 @@ module _ {E P : Type 0} (m : Meaning) (t : Telling P) (engine : E) (p : Option P
     told = subst (λ es. IsTold t es p) (sym same_log) s.held.told;
   }
 
-  pub close_sound : image_of new.given ≡ old.views.private → IsSound m t engine p new (counts ++ n ∷ []) log givers (length log) capacity
-  close_sound whole =
+  pub close_sound : image_of new.given ≡ old.views.private → IsImaged new → IsSound m t engine p new (counts ++ n ∷ []) log givers (length log) capacity
+  close_sound whole imaged =
       let sums = sum_push counts n in
       let items_len = length_push old.given x in
       let counts_len = length_push counts n in
       record {
-        held = close_held whole;
+        held = close_held whole imaged;
         given = subst (AllGiven givers) (sym same_marks) s.given;
         closed_are = omega (arith, sums, rest, s.closed_are);
         within = omega arith;
@@ -120,12 +129,6 @@ module _ {E P : Type 0} (m : Meaning) (t : Telling P) (engine : E) (p : Option P
         space = s.space;
         sessions = s.sessions;
       }
-    where
-      same_marks : all_marks after ≡ all_marks before
-      same_marks =
-          ap (λ (groups : List (List Entry)). marks_in 0 (old.first + 1) (groups ++ after.waiting ∷ [])) groups_are
-          ∙ (ap (λ es. marks_in 0 (old.first + 1) ((before.groups ++ before.waiting ∷ []) ++ es ∷ [])) none_waits
-          ∙ marks_closed 0 (old.first + 1) before.groups before.waiting)
 
   pub close_closes : Closes before after
   close_closes = record {

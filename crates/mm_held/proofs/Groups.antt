@@ -2,7 +2,7 @@
 use Rattle.std.proofs.Common.{◌≡◌, ℕ, ◌+◌, ◌-◌, ◌≤◌, zero, suc, List, [], ◌∷◌, ◌++◌, length, map, take, drop, refl, ◌∙◌, ap, arith}
 use Rattle.std.proofs.lemmas.List.{length-take-le}
 use Rattle.mm_model.specs.declared.action.Entry.{Entry}
-use Rattle.mm_held.specs.Log.{sum, closed_groups, open_group, joined}
+use Rattle.mm_held.specs.Log.{sum, closed_groups, open_group, joined, AreOfSessions}
 
 pub sum_push : (counts : List ℕ) (n : ℕ) → sum (counts ++ n ∷ []) ≡ sum counts + n
 sum_push [] n = omega arith
@@ -83,3 +83,10 @@ counted_groups [] log within = refl
 counted_groups (n ∷ counts) log within =
     ap (λ k. k ∷ map length (closed_groups counts (drop n log))) (length-take-le n log (omega (arith, within)))
     ∙ ap (λ ks. n ∷ ks) (counted_groups counts (drop n log) (let left = left_over n log in omega (arith, left, within)))
+
+-- ---- sessions
+
+-- one more entry of one of these sessions
+pub of_push : (sessions : ℕ) (log : List Entry) (e : Entry) → AreOfSessions sessions log → 1 ≤ e.session → e.session ≤ sessions → AreOfSessions sessions (log ++ e ∷ [])
+of_push sessions [] e all least most = (least, most, tt)
+of_push sessions (x ∷ log) e all least most = (all.0, all.1, of_push sessions log e all.2 least most)

@@ -1,6 +1,7 @@
 -- What each call does to the fact of the images.
 use Rattle.std.proofs.Common.{◌≡◌, ℕ, ◌+◌, ◌≤◌, ◌<◌, List, [], ◌∷◌, ◌++◌, length, map, refl, sym, ◌∙◌, ap, subst, arith}
 use Rattle.std.proofs.lemmas.List.{map_push, length_push}
+use Rattle.std.specs.FinMap.{empty}
 use Rattle.mm_ranges.specs.Overlay.{over, over_all, ranges_of}
 use Rattle.mm_ranges.specs.Limits.{IsAllowed}
 use Rattle.mm_ranges.specs.declared.part.Part.{Part}
@@ -9,11 +10,29 @@ use Rattle.mm_views.specs.State.{State, IsCovered, PartFits, weight_in, closed_f
 use Rattle.mm_tie.specs.Ends.{given, giver_ring, giver_room}
 use Rattle.mm_tie.specs.declared.ends.Giver.{Giver}
 use Rattle.mm_tie.specs.Items.{image_of, up_to, Follows}
-use Rattle.mm_held.specs.Images.{Imaged, IsImaged, beyond, imaged}
-use Rattle.mm_held.proofs.Items.{numbered_push, is_numbered, parted, next_item, pushed_up_to, pushed_beyond, over_all-append, image_append}
+use Rattle.mm_held.specs.Images.{Imaged, IsImaged, AreNumbered, beyond, imaged, item}
+use Rattle.mm_held.proofs.Items.{numbered_push, is_numbered, in_front, parted, next_item, pushed_up_to, pushed_beyond, over_all-append, image_append}
 
 abbrev parts_of : List Closed → List Part
 parts_of items = map (λ (i : Closed). i.part) items
+
+-- item 0 was given alone, and nothing is closed
+pub first_imaged : (views : State) (first : ℕ) (part : Part) (g : Giver Closed) → given g ≡ item first part 0 ∷ [] → 1 ≤ giver_room g → over part empty ≡ views.shared → IsCovered views → views.closed ≡ []
+    → weight_in views.made views.opened ≤ 67108864 → IsImaged (imaged views first first g)
+first_imaged views first part g only room whole covered none light =
+    let one : length (given g) ≡ 1 = ap (λ (is : List Closed). length is) only in
+    let front = in_front first (item first part 0) [] (omega arith) in
+    record {
+      numbered = subst (AreNumbered first) (sym only) (refl, tt);
+      some = omega (arith, one);
+      few = omega (arith, one, room);
+      from_first = omega arith;
+      to_last = omega (arith, one);
+      shared = sym whole ∙ sym (ap (λ (is : List Closed). image_of (up_to first is)) only ∙ ap image_of front.0);
+      closed = none ∙ sym (ap (λ (is : List Closed). parts_of (beyond first is)) only ∙ ap parts_of front.1);
+      covered = covered;
+      light = omega (arith, light);
+    }
 
 -- other views with the same shared image and the same closed parts
 pub views_anew : (v : Imaged) (w : State) → IsImaged v → w.shared ≡ v.views.shared → w.closed ≡ v.views.closed → IsCovered w → weight_in w.made w.opened ≤ 134217728

@@ -9,7 +9,7 @@ use Rattle.mm_model.specs.declared.action.Entry.{Entry}
 use Rattle.mm_tie.specs.Ends.{Ring, given, giver_ring, giver_room}
 use Rattle.mm_tie.specs.declared.ends.Giver.{Giver}
 use Rattle.mm_held.specs.declared.pass.Mark.{Mark}
-use Rattle.mm_held.specs.Log.{mark, marks_at, marks_in, marks_of, joined, IsAboveLast, LinesRise, IsGiven, AllGiven}
+use Rattle.mm_held.specs.Log.{mark, marks_at, marks_in, marks_of, joined, IsAboveLast, LinesRise, IsGiven, IsInTurn, AllGiven}
 
 append_assoc : (xs ys zs : List Mark) → (xs ++ ys) ++ zs ≡ xs ++ (ys ++ zs)
 append_assoc [] ys zs = refl
@@ -125,11 +125,23 @@ seat_within givers s r found = omega (arith, slice_get_within (map giver_ring gi
 pub same_length : (givers : List (Giver Mark)) (s : ℕ) (g' : Giver Mark) → length (slice_set givers s g') ≡ length givers
 same_length givers s g' = search rules
 
+shown_or : {A : Type 0} (f : Giver Mark → A) (givers : List (Giver Mark)) (s : ℕ) (g : Giver Mark) → get_or (map f givers) s (f g) ≡ f (get_or givers s g)
+shown_or f [] s g = refl
+shown_or f (h ∷ givers) zero g = refl
+shown_or f (h ∷ givers) (suc s) g = shown_or f givers s g
+
 -- what an end shows is what the list of the shown has at its place
 pub shown_at : {A : Type 0} (f : Giver Mark → A) (givers : List (Giver Mark)) (s : ℕ) (g : Giver Mark) (x : A) → slice_get (map f givers) s ≡ Some x → g ≡ get_or givers s g → f g ≡ x
-shown_at f givers s g x found at = ap f at ∙ (sym (of_map givers s) ∙ get_or_from_slice_get (map f givers) s x (f g) found)
-  where
-    of_map : (gs : List (Giver Mark)) (i : ℕ) → get_or (map f gs) i (f g) ≡ f (get_or gs i g)
-    of_map [] i = refl
-    of_map (h ∷ gs) zero = refl
-    of_map (h ∷ gs) (suc i) = of_map gs i
+shown_at f givers s g x found at = ap f at ∙ (sym (shown_or f givers s g) ∙ get_or_from_slice_get (map f givers) s x (f g) found)
+
+-- each session was told its own in turn
+pub in_turn : (givers : List (Giver Mark)) (marks : List Mark) → AllGiven givers marks → (place room : ℕ) → slice_get (map giver_room givers) place ≡ Some room → IsInTurn room (marks_of (place + 1) marks)
+in_turn [] marks all place room found = absurd (let lies = slice_get_within [] place room found in omega (arith, lies))
+in_turn (h ∷ givers) marks all place room found =
+    let lies : place < length (h ∷ givers) = omega (arith, slice_get_within (map giver_room (h ∷ givers)) place room found, length-map (h ∷ givers) giver_room) in
+    let own = all place h lies in
+    let is : giver_room (get_or (h ∷ givers) place h) ≡ room = sym (shown_or giver_room (h ∷ givers) place h) ∙ get_or_from_slice_get (map giver_room (h ∷ givers)) place room (giver_room h) found in
+    record { rise = own.rise; few = subst (λ n. length (marks_of (place + 1) marks) ≤ n) is own.few }
+
+pub same_count : (givers others : List (Giver Mark)) → length others ≡ length givers → length (map giver_room givers) ≡ length (map giver_room others)
+same_count givers others same = length-map givers giver_room ∙ (sym same ∙ sym (length-map others giver_room))

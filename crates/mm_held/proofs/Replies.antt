@@ -7,7 +7,7 @@ use Rattle.mm_model.specs.declared.reply.Reply.TheVariants.{Done, Found, DocTooL
 use Rattle.mm_model.specs.Laws.{is_ok}
 use Rattle.mm_held.specs.Meaning.{Meaning, Stored}
 use Rattle.mm_held.specs.History.{IsReply, moved}
-use Rattle.mm_held.specs.Steps.{IsCarriedOut, IsAnswered}
+use Rattle.mm_held.specs.Steps.{IsCarriedOut, IsAnswered, IsLimited}
 
 module _ (m : Meaning) (db : Stored) (c : Command) (old new : Drafting) where
   -- An Ok was carried out.
@@ -57,6 +57,30 @@ module _ (m : Meaning) (db : Stored) (c : Command) (old new : Drafting) where
   replied NsFull is stands a = a.reply
   replied NoSpace is stands a = record { image = old.image; stands = stands; room = omega arith; done = a.done; cause = a.cause }
   replied (OpTooLarge weight) is stands a = absurd a
+
+  -- A limit's refusal has its cause on the draft's image before.
+  pub limited : (r : Reply) → IsAnswered m db c old new r → IsLimited m old.image c r
+  limited (Done n) a = tt
+  limited (Found ds) a = tt
+  limited (DocTooLarge len) a = tt
+  limited DocTooDeep a = tt
+  limited IdArray a = tt
+  limited (BadOperator name) a = tt
+  limited (BadChange name) a = tt
+  limited ChangesId a = tt
+  limited (NotNumber path) a = tt
+  limited (IncOverflow path) a = tt
+  limited (NoCollection name) a = tt
+  limited (NoIndex name) a = tt
+  limited IdIndex a = tt
+  limited (IndexDiffers name) a = tt
+  limited TooManyIndexes a = tt
+  limited (ArrayKey index) a = tt
+  limited (KeyTooLong index len) a = tt
+  limited (Duplicate index key) a = tt
+  limited NsFull a = tt
+  limited NoSpace a = a.cause
+  limited (OpTooLarge weight) a = absurd a
 
   pub kept : (r : Reply) → is_ok r ≡ false → IsAnswered m db c old new r → moved m db c r ≡ db
   kept (Done n) is a = absurd cc

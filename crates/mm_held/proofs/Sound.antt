@@ -1,6 +1,6 @@
 -- What each call does to what is true of the fields.
 use Rattle.std.proofs.Common.{◌≡◌, ℕ, ◌+◌, ◌≤◌, ◌<◌, List, [], ◌∷◌, ◌++◌, Option, Some, None, Result, Ok, Err, OnOk, OnErr, true, length, map, take, drop, slice_get, refl, sym, ◌∙◌, ap, subst, arith}
-use Rattle.std.proofs.lemmas.List.{length_push}
+use Rattle.std.proofs.lemmas.List.{length_push, length-map}
 use Rattle.mm_ranges.specs.declared.part.Closed.{Closed}
 use Rattle.mm_views.specs.State.{State}
 use Rattle.mm_model.specs.declared.action.Entry.{Entry}
@@ -12,12 +12,12 @@ use Rattle.mm_held.specs.declared.pass.Pass.{Pass}
 use Rattle.mm_held.specs.Meaning.{Meaning, Stored}
 use Rattle.mm_held.specs.History.{fold, AreReplies}
 use Rattle.mm_held.specs.Steps.{IsStep}
-use Rattle.mm_held.specs.Images.{Imaged, SameItems, opening}
-use Rattle.mm_held.specs.Log.{joined, mark, marks_in, sum, AllGiven}
+use Rattle.mm_held.specs.Images.{Imaged, IsImaged, SameItems, opening}
+use Rattle.mm_held.specs.Log.{joined, mark, marks_in, sum, AllGiven, AreOfSessions}
 use Rattle.mm_held.specs.Held.{HeldView, IsHeld, IsSound, IsTold, IsToldMore, IsEntered, IsSeated, HasRoom, Telling, told_by, held_view, log_of, all_marks, section_of}
 use Rattle.mm_held.proofs.Folds.{fold_push, replies_push, replies_later}
-use Rattle.mm_held.proofs.Groups.{all_groups, open_push, closed_push, count_groups}
-use Rattle.mm_held.proofs.Marks.{marks_push, seat_within}
+use Rattle.mm_held.proofs.Groups.{all_groups, open_push, closed_push, count_groups, of_push}
+use Rattle.mm_held.proofs.Marks.{marks_push, seat_within, in_turn, same_count}
 
 -- ---- the probe
 
@@ -77,8 +77,12 @@ module _ {E P : Type 0} (m : Meaning) (t : Telling P) (engine : E) (p q : Option
         (subst (λ (groups : List (List Entry)). m.stands (image_of (take (k + 1) old.given)) (fold m db (joined (take k groups)))) (sym same_groups)
         (s.held.closed db (loaded db h) k (subst (λ (groups : List (List Entry)). k ≤ length groups) same_groups least)))
 
-    step_held : IsHeld m t after
-    step_held = record {
+    step_held : IsImaged new → AllGiven givers' (all_marks after) → length givers' ≡ length givers → 1 ≤ e.session → e.session ≤ length (map giver_room givers) → IsHeld m t after
+    step_held imaged given sessions least most = record {
+      imaged = imaged;
+      seated = subst (λ n. AreOfSessions n (log_of after)) (same_count givers givers' sessions)
+          (subst (AreOfSessions (length before.rooms)) (sym grown) (of_push (length before.rooms) (log_of before) e s.held.seated least most));
+      lines = in_turn givers' (all_marks after) given;
       some = (s.held.some.0, subst (λ (items : List Closed). m.stands (image_of (take 1 items)) s.held.some.0) (sym same.given) s.held.some.1);
       private = λ db h. subst (λ es. m.stands new.views.private (fold m db es)) (sym grown)
           (subst (m.stands new.views.private) (sym (fold_push m db (log_of before) e)) (stepped db h).stands);
@@ -91,17 +95,18 @@ module _ {E P : Type 0} (m : Meaning) (t : Telling P) (engine : E) (p q : Option
       told = subst (λ es. IsTold t es q) (sym grown) (told_more t (log_of before) e p q s.held.told told);
     }
 
-    pub step_sound : (section : ℕ) → section ≡ new.first + length new.given → ((marks : List Mark) → AllGiven givers marks → AllGiven givers' (marks ++ mark (length log) section e ∷ [])) → length givers' ≡ length givers
+    pub step_sound : IsImaged new → 1 ≤ e.session → e.session ≤ length (map giver_room givers) → (section : ℕ) → section ≡ new.first + length new.given → ((marks : List Mark) → AllGiven givers marks → AllGiven givers' (marks ++ mark (length log) section e ∷ [])) → length givers' ≡ length givers
         → IsSound m t engine q new counts (log ++ e ∷ []) givers' closed capacity
-    step_sound section is handed sessions =
+    step_sound imaged least most section is handed sessions =
         let longer = length_push log e in
         let place : length log ≡ length (log_of before) = ap length (sym (all_groups counts log)) in
         let handed_so = handed (all_marks before) s.given in
+        let given : AllGiven givers' (all_marks after) = subst (AllGiven givers') (sym marks_grown)
+        (subst (λ n. AllGiven givers' (all_marks before ++ mark (length (log_of before)) n e ∷ [])) (section_is section is)
+        (subst (λ n. AllGiven givers' (all_marks before ++ mark n section e ∷ [])) place handed_so)) in
         record {
-          held = step_held;
-          given = subst (AllGiven givers') (sym marks_grown)
-              (subst (λ n. AllGiven givers' (all_marks before ++ mark (length (log_of before)) n e ∷ [])) (section_is section is)
-              (subst (λ n. AllGiven givers' (all_marks before ++ mark n section e ∷ [])) place handed_so));
+          held = step_held imaged given sessions least most;
+          given = given;
           closed_are = s.closed_are;
           within = omega (arith, longer, s.within);
           items = ap (λ (gs : List Closed). length gs) same.given ∙ s.items;
@@ -137,12 +142,28 @@ module _ {E P : Type 0} (m : Meaning) (t : Telling P) (engine : E) (p q : Option
 -- the same items, and views that show the same private image and the same opened intents
 pub images_sound : {E P : Type 0} {m : Meaning} {t : Telling P} {engine : E} {p : Option P} {old : Imaged} {counts : List ℕ} {log : List Entry} {givers : List (Giver Mark)} {closed capacity : ℕ}
     → IsSound m t engine p old counts log givers closed capacity → (new : Imaged) → new.first ≡ old.first → new.given ≡ old.given → new.most ≡ old.most
-    → new.views.private ≡ old.views.private → new.views.made ≡ old.views.made → new.views.opened ≡ old.views.opened
+    → new.views.private ≡ old.views.private → new.views.made ≡ old.views.made → new.views.opened ≡ old.views.opened → IsImaged new
     → IsSound m t engine p new counts log givers closed capacity
-images_sound {E} {P} {m} {t} {engine} {p} {old} {counts} {log} {givers} {closed} {capacity} s new first given most private made opened =
+images_sound {E} {P} {m} {t} {engine} {p} {old} {counts} {log} {givers} {closed} {capacity} s new first given most private made opened imaged =
     let with_views : State → Imaged = λ w. record new { first = old.first; given = old.given; most = old.most; views = w } in
+    let is : with_views (record new.views { private = old.views.private; made = old.views.made; opened = old.views.opened }) ≡ new =
+    ap with_views (ap (λ x. record new.views { private = x; made = old.views.made; opened = old.views.opened }) (sym private)
+    ∙ (ap (λ x. record new.views { made = x; opened = old.views.opened }) (sym made) ∙ ap (λ x. record new.views { opened = x }) (sym opened)))
+    ∙ (ap (λ x. record new { first = x; given = old.given; most = old.most }) (sym first)
+    ∙ (ap (λ x. record new { given = x; most = old.most }) (sym given) ∙ ap (λ x. record new { most = x }) (sym most))) in
     let like : IsSound m t engine p (with_views (record new.views { private = old.views.private; made = old.views.made; opened = old.views.opened })) counts log givers closed capacity = record {
-      held = record { some = s.held.some; private = s.held.private; replies = s.held.replies; closed = s.held.closed; counted = s.held.counted; opened = s.held.opened; told = s.held.told };
+      held = record {
+        some = s.held.some;
+        imaged = subst IsImaged (sym is) imaged;
+        private = s.held.private;
+        replies = s.held.replies;
+        closed = s.held.closed;
+        counted = s.held.counted;
+        seated = s.held.seated;
+        lines = s.held.lines;
+        opened = s.held.opened;
+        told = s.held.told;
+      };
       given = s.given;
       closed_are = s.closed_are;
       within = s.within;
@@ -150,19 +171,15 @@ images_sound {E} {P} {m} {t} {engine} {p} {old} {counts} {log} {givers} {closed}
       space = s.space;
       sessions = s.sessions;
     } in
-    subst (λ i. IsSound m t engine p i counts log givers closed capacity)
-    (ap with_views (ap (λ x. record new.views { private = x; made = old.views.made; opened = old.views.opened }) (sym private)
-    ∙ (ap (λ x. record new.views { made = x; opened = old.views.opened }) (sym made) ∙ ap (λ x. record new.views { opened = x }) (sym opened)))
-    ∙ (ap (λ x. record new { first = x; given = old.given; most = old.most }) (sym first)
-    ∙ (ap (λ x. record new { given = x; most = old.most }) (sym given) ∙ ap (λ x. record new { most = x }) (sym most)))) like
+    subst (λ i. IsSound m t engine p i counts log givers closed capacity) is like
 
 pub ready_sound : {A B E P : Type 0} {m : Meaning} {t : Telling P} {engine : E} {p : Option P} {old : Imaged} {counts : List ℕ} {log : List Entry} {givers : List (Giver Mark)} {closed capacity : ℕ}
-    → IsSound m t engine p old counts log givers closed capacity → (new : Imaged) (r : Result A B) → OnOk r (new ≡ record old { views = record old.views { is_ready = true } }) → OnErr r (new ≡ old)
+    → IsSound m t engine p old counts log givers closed capacity → (new : Imaged) (r : Result A B) → OnOk r (new ≡ record old { views = record old.views { is_ready = true } }) → OnErr r (new ≡ old) → IsImaged new
     → IsSound m t engine p new counts log givers closed capacity
-ready_sound s new (Ok a) ok err =
-    images_sound s new (ap (λ (i : Imaged). i.first) ok) (ap (λ (i : Imaged). i.given) ok) (ap (λ (i : Imaged). i.most) ok) (ap (λ (i : Imaged). i.views.private) ok) (ap (λ (i : Imaged). i.views.made) ok) (ap (λ (i : Imaged). i.views.opened) ok)
-ready_sound s new (Err b) ok err =
-    images_sound s new (ap (λ (i : Imaged). i.first) err) (ap (λ (i : Imaged). i.given) err) (ap (λ (i : Imaged). i.most) err) (ap (λ (i : Imaged). i.views.private) err) (ap (λ (i : Imaged). i.views.made) err) (ap (λ (i : Imaged). i.views.opened) err)
+ready_sound s new (Ok a) ok err imaged =
+    images_sound s new (ap (λ (i : Imaged). i.first) ok) (ap (λ (i : Imaged). i.given) ok) (ap (λ (i : Imaged). i.most) ok) (ap (λ (i : Imaged). i.views.private) ok) (ap (λ (i : Imaged). i.views.made) ok) (ap (λ (i : Imaged). i.views.opened) ok) imaged
+ready_sound s new (Err b) ok err imaged =
+    images_sound s new (ap (λ (i : Imaged). i.first) err) (ap (λ (i : Imaged). i.given) err) (ap (λ (i : Imaged). i.most) err) (ap (λ (i : Imaged). i.views.private) err) (ap (λ (i : Imaged). i.views.made) err) (ap (λ (i : Imaged). i.views.opened) err) imaged
 
 -- ---- the same in other words
 
@@ -185,13 +202,27 @@ module _ {E P : Type 0} {w v : HeldView E P} (is : w ≡ v) where
   sits_within givers rings pass seat =
       seat_within givers pass.place (taker_ring pass.taker) (subst (λ rs. slice_get rs pass.place ≡ Some (taker_ring pass.taker)) rings (seat_there pass seat))
 
+  pub within_rooms : (givers : List (Giver Mark)) → w.rings ≡ map giver_ring givers → (pass : Pass) → IsSeated v pass → pass.place + 1 ≤ length (map giver_room givers)
+  within_rooms givers rings pass seat = omega (arith, sits_within givers rings pass seat, length-map givers giver_room)
+
 -- other ends, which gave the same marks
 pub givers_sound : {E P : Type 0} {m : Meaning} {t : Telling P} {engine : E} {p : Option P} {images : Imaged} {counts : List ℕ} {log : List Entry} {givers : List (Giver Mark)} {closed capacity : ℕ}
     → IsSound m t engine p images counts log givers closed capacity
     → (others : List (Giver Mark)) → AllGiven others (all_marks (held_view engine p images counts log givers)) → length others ≡ length givers
     → IsSound m t engine p images counts log others closed capacity
-givers_sound s others given sessions = record {
-  held = record { some = s.held.some; private = s.held.private; replies = s.held.replies; closed = s.held.closed; counted = s.held.counted; opened = s.held.opened; told = s.held.told };
+givers_sound {E} {P} {m} {t} {engine} {p} {images} {counts} {log} {givers} s others given sessions = record {
+  held = record {
+    some = s.held.some;
+    imaged = s.held.imaged;
+    private = s.held.private;
+    replies = s.held.replies;
+    closed = s.held.closed;
+    counted = s.held.counted;
+    seated = subst (λ n. AreOfSessions n (log_of (held_view engine p images counts log givers))) (same_count givers others sessions) s.held.seated;
+    lines = in_turn others (all_marks (held_view engine p images counts log others)) given;
+    opened = s.held.opened;
+    told = s.held.told;
+  };
   given = given;
   closed_are = s.closed_are;
   within = s.within;

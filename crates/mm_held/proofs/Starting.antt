@@ -10,7 +10,7 @@ use Rattle.mm_held.specs.declared.pass.Mark.{Mark}
 use Rattle.mm_held.specs.declared.pass.Pass.{Pass}
 use Rattle.mm_held.specs.Meaning.{Meaning, Stored}
 use Rattle.mm_held.specs.History.{fold}
-use Rattle.mm_held.specs.Images.{Imaged, item}
+use Rattle.mm_held.specs.Images.{Imaged, IsImaged, item}
 use Rattle.mm_held.specs.Loaded.{IsBegun, whole_part}
 use Rattle.mm_held.specs.Log.{joined}
 use Rattle.mm_held.specs.Seats.{AreSeats}
@@ -20,18 +20,21 @@ use Rattle.mm_held.proofs.Seating.{seats_count, seats_given, seats_rooms, seat_a
 -- item 0 was given alone, no session was given a mark, and the private image stands for whatever the loaded one stands for
 pub begun_sound : {E P : Type 0} (m : Meaning) (t : Telling P) (engine : E) (p : Option P) (images : Imaged) (givers : List (Giver Mark)) (capacity : ℕ) (x : Closed)
     → images.given ≡ x ∷ [] → ((db : Stored) × m.stands (image_of (x ∷ [])) db) → ((db : Stored) → m.stands (image_of (x ∷ [])) db → m.stands images.views.private db)
-    → IsTold t [] p → ((i : ℕ) (d : Giver Mark) → i < length givers → given (slice_index_or givers i d) ≡ []) → images.most ≤ capacity + 1 → length givers < 4294967296
+    → IsTold t [] p → ((i : ℕ) (d : Giver Mark) → i < length givers → given (slice_index_or givers i d) ≡ []) → images.most ≤ capacity + 1 → length givers < 4294967296 → IsImaged images
     → IsSound m t engine p images [] [] givers 0 capacity
-begun_sound m t engine p images givers capacity x only some all told none space sessions =
+begun_sound m t engine p images givers capacity x only some all told none space sessions imaged =
     let loaded : (db : Stored) → m.stands (image_of (take 1 images.given)) db → m.stands (image_of (x ∷ [])) db = λ db h. subst (λ (is : List Closed). m.stands (image_of (take 1 is)) db) only h in
     let one : length images.given ≡ 1 = ap (λ (is : List Closed). length is) only in
     record {
       held = record {
         some = (some.0, subst (λ (is : List Closed). m.stands (image_of (take 1 is)) some.0) (sym only) some.1);
+        imaged = imaged;
         private = λ db h. all db (loaded db h);
         replies = λ db h. tt;
         closed = λ db h k least. let none_closed : 0 ≡ k = omega (arith, least) in subst (λ n. m.stands (image_of (take (n + 1) images.given)) (fold m db (joined (take n [])))) none_closed h;
         counted = ap (λ (is : List Closed). map (λ (i : Closed). i.entries) (drop 1 is)) only;
+        seated = tt;
+        lines = λ place room found. record { rise = tt; few = omega arith };
         opened = λ empty more. absurd (omega (arith, more));
         told = told;
       };
@@ -48,14 +51,14 @@ begun_sound m t engine p images givers capacity x only some all told none space 
 -- the views began well, so item 0's image stands for whatever the loaded one stands for, and so does the private one
 pub began_sound : {E P : Type 0} (m : Meaning) (t : Telling P) (engine : E) (p : Option P) (loaded : State) (images : Imaged) (x : Closed) (rooms : List ℕ) (givers : List (Giver Mark)) (passes : List Pass) (groups capacity : ℕ)
     → IsBegun m loaded images.views → images.given ≡ x ∷ [] → image_of images.given ≡ loaded.private → images.most ≡ groups + 1 → capacity ≡ groups → IsTold t [] p
-    → AreSeats 0 rooms givers passes → length rooms ≤ sum rooms → sum rooms < 4294967296
+    → AreSeats 0 rooms givers passes → length rooms ≤ sum rooms → sum rooms < 4294967296 → IsImaged images
     → IsSound m t engine p images [] [] givers 0 capacity
-began_sound m t engine p loaded images x rooms givers passes groups capacity began only whole most room told seats count bound =
+began_sound m t engine p loaded images x rooms givers passes groups capacity began only whole most room told seats count bound imaged =
     let there : image_of (x ∷ []) ≡ loaded.private = ap image_of (sym only) ∙ whole in
     let len = (seats_count 0 rooms givers passes seats).0 in
     begun_sound m t engine p images givers capacity x only
     (began.some.0, subst (λ i. m.stands i began.some.0) (sym there) began.some.1) (λ db h. began.stands db (subst (λ i. m.stands i db) there h))
-    told (seats_given 0 rooms givers passes seats) (omega (arith, most, room)) (omega (arith, len, count, bound))
+    told (seats_given 0 rooms givers passes seats) (omega (arith, most, room)) (omega (arith, len, count, bound)) imaged
 
 pub is_started : {E P : Type 0} (m : Meaning) (engine : E) (p : Option P) (loaded : State) (next : ℕ) (rooms : List ℕ) (groups : ℕ) (images : Imaged) (ring : Ring) (givers : List (Giver Mark)) (passes : List Pass)
     → images ≡ record { views = images.views; first = next - 1; given = item (next - 1) (whole_part loaded.private) 0 ∷ []; ring = ring; most = groups + 1; applied = next - 1 }

@@ -12,7 +12,7 @@ use Rattle.mm_held.specs.declared.fault.Refused.{Refused}
 use Rattle.mm_held.specs.declared.fault.Refused.TheVariants.{GroupFull, NoMemory as NoneLeft}
 use Rattle.mm_held.specs.Meaning.{Meaning, Stored}
 use Rattle.mm_held.specs.History.{IsReply, moved}
-use Rattle.mm_held.specs.Steps.{IsCarriedOut}
+use Rattle.mm_held.specs.Steps.{IsCarriedOut, IsLimited}
 
 abbrev pub weight_of : Drafting → ℕ
 weight_of d = weight_in d.made d.declared
@@ -52,12 +52,14 @@ IsTooMuch used d NoneLeft = Unit {0}
 pub record IsAdoptedFor (m : Meaning) (db : Stored) (c : Command) (old new : Drafting) (answer : Answer) : Type 0 where
   pub twice : answer.kept ≡ answer.reply
   pub done : is_ok answer.reply ≡ true
+  pub limit : IsLimited m old.image c answer.reply
   pub carried : IsCarriedOut m db c old new answer.reply
 
 pub record IsGivenUpFor (m : Meaning) (db : Stored) (c : Command) (old : Drafting) (answer : Answer) : Type 0 where
   pub twice : answer.kept ≡ answer.reply
   pub refused : is_ok answer.reply ≡ false
   pub reply : IsReply m (m.room old.image) db c answer.reply
+  pub limit : IsLimited m old.image c answer.reply
   pub kept : moved m db c answer.reply ≡ db
 
 abbrev pub IsFate : Meaning → Stored → Command → Drafting → Drafting → Fate → Type 0

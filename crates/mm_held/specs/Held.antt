@@ -5,6 +5,7 @@ use Rattle.mm_views.specs.State.{State, part_of}
 use Rattle.mm_model.specs.declared.action.Entry.{Entry}
 use Rattle.mm_model.specs.declared.command.Command.{Command}
 use Rattle.mm_model.specs.declared.reply.Reply.{Reply}
+use Rattle.mm_probe.specs.declared.probe.Probe.{Ghosts}
 use Rattle.mm_tie.specs.Ends.{Ring, taken, taker_ring, giver_ring, giver_room}
 use Rattle.mm_tie.specs.Items.{image_of}
 use Rattle.mm_tie.specs.declared.ends.Giver.{Giver}
@@ -12,9 +13,9 @@ use Rattle.mm_held.specs.declared.pass.Pass.{Pass}
 use Rattle.mm_held.specs.declared.pass.Mark.{Mark}
 use Rattle.mm_held.specs.Meaning.{Meaning, Stored}
 use Rattle.mm_held.specs.History.{fold, AreReplies}
-use Rattle.mm_held.specs.Images.{Imaged, opening, item}
+use Rattle.mm_held.specs.Images.{Imaged, IsImaged, opening, item}
 use Rattle.mm_held.specs.Loaded.{IsBegun, whole_part}
-use Rattle.mm_held.specs.Log.{joined, closed_groups, open_group, marks_in, sum, AllGiven}
+use Rattle.mm_held.specs.Log.{joined, closed_groups, open_group, marks_in, marks_of, sum, AllGiven, AreOfSessions, IsInTurn}
 
 -- The engine and the probe; the images and the items that were given; the log in its closed groups and the opened one; and of each session's
 -- end its ring and its room.
@@ -36,12 +37,9 @@ abbrev pub told_by : (List ℕ → Entry → List ℕ) → List ℕ → List Ent
 told_by next state [] = state
 told_by next state (e ∷ es) = told_by next (next state e) es
 
--- what a probe means: its state, its rule, its start, and its report
-pub record Telling (P : Type 0) : Type 0 where
-  pub state : P → List ℕ
-  pub start : P → List ℕ
-  pub next : P → List ℕ → Entry → List ℕ
-  pub shown : P → List ℕ → List ℕ
+-- what a probe means: its state, its start, its rule, and its report
+abbrev pub Telling : Type 0 → Type 1
+Telling P = Ghosts P
 
 -- The probe's state is the fold of its rule over the log.
 abbrev pub IsTold : {P : Type 0} → Telling P → List Entry → Option P → Type 0
@@ -70,6 +68,8 @@ module _ {E P : Type 0} where
   -- The fact of a held database. It is said of each database that the files stood for when they were loaded; there is one.
   pub record IsHeld (m : Meaning) (t : Telling P) (v : HeldView E P) : Type 0 where
     pub some : (db : Stored) × m.stands (opening v.images) db
+    -- the shared image is that of the applied items, and the private one differs from it only in what waits to be applied and what is opened
+    pub imaged : IsImaged v.images
     -- the private image stands for the fold of the log
     pub private : (db : Stored) → m.stands (opening v.images) db → m.stands v.images.views.private (fold m db (log_of v))
     -- each reply is that to its command there, or a limit's with its cause
@@ -79,6 +79,9 @@ module _ {E P : Type 0} where
         → m.stands (image_of (take (k + 1) v.images.given)) (fold m db (joined (take k v.groups)))
     -- each item but the first has as many entries as its group
     pub counted : map (λ (i : Closed). i.entries) (drop 1 v.images.given) ≡ map length v.groups
+    -- each entry is of a session that has a seat; each session's lines rise, and it has no more entries than its room
+    pub seated : AreOfSessions (length v.rooms) (log_of v)
+    pub lines : (place room : ℕ) → slice_get v.rooms place ≡ Some room → IsInTurn room (marks_of (place + 1) (all_marks v))
     -- something is opened without an entry only before the first close
     pub opened : v.waiting ≡ [] → 0 < length v.groups → (v.images.views.made ≡ []) × (v.images.views.opened ≡ [])
     pub told : IsTold t (log_of v) v.probe

@@ -26,6 +26,11 @@ abbrev pub joined : List (List Entry) → List Entry
 joined [] = []
 joined (g ∷ groups) = g ++ joined groups
 
+-- each of these is an entry of one of so many sessions, which are counted from 1
+abbrev pub AreOfSessions : ℕ → List Entry → Type 0
+AreOfSessions sessions [] = Unit {0}
+AreOfSessions sessions (e ∷ es) = (1 ≤ e.session) × (e.session ≤ sessions) × AreOfSessions sessions es
+
 -- ---- marks
 
 abbrev pub mark : ℕ → ℕ → Entry → Mark
@@ -62,6 +67,11 @@ pub record IsGiven (g : Giver Mark) (own : List Mark) : Type 0 where
   pub marks : given g ≡ own
   pub rise : LinesRise own
   pub few : length own ≤ giver_room g
+
+-- What a session was told: its lines rise, and it has no more marks than its room.
+pub record IsInTurn (room : ℕ) (own : List Mark) : Type 0 where
+  pub rise : LinesRise own
+  pub few : length own ≤ room
 
 -- Each session was given its own of these marks. The ends stand in the order of the sessions, which are counted from 1.
 abbrev pub AllGiven : List (Giver Mark) → List Mark → Type 0

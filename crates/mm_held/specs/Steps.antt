@@ -61,10 +61,18 @@ pub record IsOpened (m : Meaning) (c : Command) (old new : State) : Type 0 where
   pub group : weight_in old.made old.opened + weight ≤ 134217728
   pub opened : weight_in new.made new.opened ≤ weight_in old.made old.opened + weight
 
--- The command has this reply; the private image stands for the database after it, and its room hasn't risen. The shared image and the closed
--- parts stay. An Ok opens what its draft declared, and a refusal changes nothing at all.
+-- A limit's refusal has its cause on this very image: the command may lack space there, or its draft may have the weight, which is above a step's limit.
+abbrev pub IsLimited : Meaning → Image → Command → Reply → Type 0
+IsLimited m image c NoSpace = m.may_lack image c
+IsLimited m image c (OpTooLarge weight) = (67108864 < weight) × m.may_weigh image c weight
+IsLimited m image c reply = Unit {0}
+
+-- The command has this reply, and if it is a limit's, the private image before is the cause; the private image then stands for the database after
+-- the command, and its room hasn't risen. The shared image and the closed parts stay. An Ok opens what its draft declared, and a refusal changes
+-- nothing at all.
 pub record IsStep (m : Meaning) (db : Stored) (c : Command) (old new : State) (r : Reply) : Type 0 where
   pub reply : IsReply m (m.room new.private) db c r
+  pub limit : IsLimited m old.private c r
   pub stands : m.stands new.private (moved m db c r)
   pub room : m.room new.private ≤ m.room old.private
   pub shared : new.shared ≡ old.shared

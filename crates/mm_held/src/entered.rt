@@ -32,7 +32,7 @@ fn hand(givers: &mut Vec<Giver<Mark>>, pass: &mut Pass, mark: Mark) -> Mark
 
 /// Tells the probe of an entry, if there is one.
 fn tell<P: Probe>(probe: &mut Option<P>, entry: &Entry)
-    ensures { IsToldMore (record { state = P.state; start = P.start; next = P.next; shown = P.shown }) entry.now probe.old probe.new }
+    ensures { IsToldMore P.Probe entry.now probe.old probe.new }
 {
     if let Some(probe) = probe {
         probe.note(entry);
@@ -56,7 +56,7 @@ pub fn enter<P: Probe>(
     requires line { IsAboveLast entry.line (taken pass.old.taker) }
     ensures log { log.new.items ≡ log.old.items ++ entry ∷ [] }
     ensures given { (marks : List Told) → AllGiven givers.old.items marks → AllGiven givers.new.items (marks ++ mark (length log.old.items) section entry ∷ []) }
-    ensures told { IsToldMore (record { state = P.state; start = P.start; next = P.next; shown = P.shown }) entry probe.old probe.new }
+    ensures told { IsToldMore P.Probe entry probe.old probe.new }
     ensures taken { taken pass.new.taker ≡ taken pass.old.taker ++ mark (length log.old.items) section entry ∷ [] }
     ensures sessions { length givers.new.items ≡ length givers.old.items }
     ensures rings { map giver_ring givers.new.items ≡ map giver_ring givers.old.items }

@@ -5,7 +5,7 @@ ghost use Rattle.mm_views.specs.State.{weight_in};
 ghost use Rattle.mm_tie.specs.Ends.{taken, taker_ring, taker_room};
 ghost use Rattle.mm_held.specs.Meaning.{Stored};
 ghost use Rattle.mm_held.specs.Steps.{IsStep, IsCause};
-ghost use Rattle.mm_held.specs.Images.{IsImaged, IsApplied, last_up_to};
+ghost use Rattle.mm_held.specs.Images.{IsApplied, last_up_to};
 ghost use Rattle.mm_held.specs.Log.{IsAboveLast, LinesRise, mark, marks_of};
 ghost use Rattle.mm_held.specs.Loaded.{StandsIfAny};
 ghost use Rattle.mm_held.specs.Held.{IsStarted, IsTold, AreNewPasses, IsHeld, IsSeated, HasRoom, IsEntered, Closes, entry, section_of, all_marks, log_of};
@@ -49,7 +49,7 @@ impl<E: Engine, P: Probe> Model for Held<E, P> {
 
     ghost view = { λ h. held_view h.engine h.probe h.images h.counts.items h.log.items h.givers.items };
 
-    ghost invariant = { λ h. IsSound (E.means h.engine) (record { state = P.state; start = P.start; next = P.next; shown = P.shown }) h.engine h.probe h.images h.counts.items h.log.items h.givers.items h.closed (vec_capacity h.counts) };
+    ghost invariant = { λ h. IsSound (E.means h.engine) P.Probe h.engine h.probe h.images h.counts.items h.log.items h.givers.items h.closed (vec_capacity h.counts) };
 }
 
 /// A reply, and the number of the section that its group will have.
@@ -88,9 +88,9 @@ impl<E: Engine, P: Probe> Held<E, P> {
         requires last { next + groups < 2 ^ 64 }
         requires some_room { (i : ℕ) → i < length rooms.items → 1 ≤ slice_index rooms.items i }
         requires all_rooms { sum rooms.items < 2 ^ 32 }
-        requires untold { IsTold (record { state = P.state; start = P.start; next = P.next; shown = P.shown }) [] probe }
+        requires untold { IsTold P.Probe [] probe }
         ensures started { IfOk result (λ r. IsStarted (E.means engine) engine probe views next rooms.items groups r.0) }
-        ensures fact { IfOk result (λ r. IsHeld (E.means engine) (record { state = P.state; start = P.start; next = P.next; shown = P.shown }) r.0) }
+        ensures fact { IfOk result (λ r. IsHeld (E.means engine) P.Probe r.0) }
         ensures passes { IfOk result (λ r. AreNewPasses r.0 r.1.items) }
         ensures feed { IfOk result (λ r. (taken r.2 ≡ r.0.images.given) × (taker_ring r.2 ≡ r.0.images.ring) × (taker_room r.2 ≡ r.0.images.most)) }
     {
@@ -118,7 +118,7 @@ impl<E: Engine, P: Probe> Held<E, P> {
         requires line { IsAboveLast line (taken pass.old.taker) }
         ensures step { IfOk result (λ done. (db : Stored) → (E.means self.old.engine).stands self.old.images.views.private db
             → IsStep (E.means self.old.engine) db command.now self.old.images.views self.new.images.views done.reply) }
-        ensures entered { IfOk result (λ done. IsEntered (record { state = P.state; start = P.start; next = P.next; shown = P.shown })
+        ensures entered { IfOk result (λ done. IsEntered P.Probe
             (entry pass.old.place line command.now done.reply) self.old self.new) }
         ensures section { IfOk result (λ done. done.section ≡ section_of self.old) }
         ensures marked { IfOk result (λ done. taken pass.new.taker
@@ -187,11 +187,9 @@ impl<E: Engine, P: Probe> Held<E, P> {
         self.images.remap();
     }
 
-    /// The section of the last closed group, or that of item 0, and what is true of the images: where the two differ, something is opened
-    /// or a closed part waits to be applied. It takes no memory.
+    /// The section of the last closed group, or that of item 0. It takes no memory.
     pub fn closed(&self) -> u64
-        ensures section { result ≡ self.now.images.first + length self.now.groups }
-        ensures imaged { IsImaged self.now.images }
+        ensures { result ≡ self.now.images.first + length self.now.groups }
     {
         self.images.last()
     }
@@ -206,7 +204,7 @@ impl<E: Engine, P: Probe> Held<E, P> {
     /// The log, and what is true of it. It takes no memory.
     pub fn log(&self) -> &[Entry]
         ensures log { result.now ≡ log_of self.now }
-        ensures fact { IsHeld (E.means self.now.engine) (record { state = P.state; start = P.start; next = P.next; shown = P.shown }) self.now }
+        ensures fact { IsHeld (E.means self.now.engine) P.Probe self.now }
     {
         self.log.as_slice()
     }
@@ -216,7 +214,7 @@ impl<E: Engine, P: Probe> Held<E, P> {
         ensures log { result.log.items ≡ log_of self }
         ensures groups { result.groups.items ≡ map length self.groups }
         ensures probe { result.probe ≡ self.probe }
-        ensures fact { IsHeld (E.means self.engine) (record { state = P.state; start = P.start; next = P.next; shown = P.shown }) self }
+        ensures fact { IsHeld (E.means self.engine) P.Probe self }
     {
         Ended {
             log: self.log,

@@ -67,6 +67,7 @@ impl Images {
         requires most { 1 ≤ most }
         requires bound { first + most < 2 ^ 64 }
         ensures images { IfOk result (λ r. r.0 ≡ record { views = views; first = first; given = item first part 0 ∷ []; ring = taker_ring r.1; most = most; applied = first }) }
+        ensures imaged { IfOk result (λ r. IsImaged r.0) }
         ensures feed { IfOk result (λ r. (taken r.1 ≡ item first part 0 ∷ []) × (taker_room r.1 ≡ most)) }
     {
         let (mut giver, mut feed) = pair(alloc, most)?;
@@ -104,6 +105,7 @@ impl Images {
         ensures begun { IfOk result (λ r. IsBegun (E.means engine.now) views r.0.views) }
         ensures images { IfOk result (λ r. r.0 ≡ record { views = r.0.views; first = first; given = item first (whole_part views.private) 0 ∷ []; ring = taker_ring r.1; most = most; applied = first }) }
         ensures opening { IfOk result (λ r. image_of r.0.given ≡ views.private) }
+        ensures imaged { IfOk result (λ r. IsImaged r.0) }
         ensures feed { IfOk result (λ r. (taken r.1 ≡ r.0.given) × (taker_room r.1 ≡ most)) }
     {
         views.remap();
@@ -221,7 +223,6 @@ impl Images {
     pub fn last(&self) -> u64
         ensures last { result + 1 ≡ self.now.first + length self.now.given }
         ensures bound { result + 1 < 2 ^ 64 }
-        ensures imaged { IsImaged self.now }
     {
         self.last
     }

@@ -6,9 +6,9 @@
 //!   group is full or memory is wanting; then all is as it was. A refused command changes no view.
 //! - `close`, which is `Origin`'s, gives the item of the opened group; `apply` lays closed parts over the shared image; both take no memory.
 //! - At all times the private image stands for the fold of the log, each reply is that to its command or a limit's with its cause, the items up
-//!   to a closed group give an image that stands for the fold of that group and those before it, each session was given just the marks of its
-//!   entries, and the two images differ only where something is opened or waits to be applied (`IsHeld`, `AllGiven` and `IsImaged` in specs/).
-//!   `log`, `agree_pass` and `closed` tell it.
+//!   to a closed group give an image that stands for the fold of that group and those before it, the two images differ only where something is
+//!   opened or waits to be applied, each entry is of a session, whose lines rise, and the probe was told each entry once. This is one fact,
+//!   `IsHeld` in specs/, which `log` tells; `agree_pass` tells that a session was given just the marks of its entries.
 //!
 //! Not promised: when a group is closed or applied, and that anything reaches a disk.
 #![tactic(auto)]

@@ -8,7 +8,7 @@ pub returns-clause-log : goal.returns-clause-log
 returns-clause-log g c = c.push_reserved.ensures.items ∙ ap (λ (m : Mark). c.args.log.now.items ++ m.entry ∷ []) c.hand-mark.ensures.mark
 
 pub returns-clause-told : goal.returns-clause-told
-returns-clause-told g c = subst (λ (m : Mark). IsToldMore (record { state = g.P.Probe.state; start = g.P.Probe.start; next = g.P.Probe.next; shown = g.P.Probe.shown }) m.entry c.args.probe.now c.tell.new.probe) c.hand-mark.ensures.mark c.tell.ensures
+returns-clause-told g c = subst (λ (m : Mark). IsToldMore g.P.Probe m.entry c.args.probe.now c.tell.new.probe) c.hand-mark.ensures.mark c.tell.ensures
 
 pub returns-clause-given : goal.returns-clause-given
 returns-clause-given g c =

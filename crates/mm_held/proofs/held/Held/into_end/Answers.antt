@@ -16,4 +16,4 @@ returns-clause-probe g c = ap (λ (v : HeldView g.row.E.Denot g.row.P.Denot). v.
 
 pub returns-clause-fact : goal.returns-clause-fact
 returns-clause-fact g c =
-    subst (λ (v : HeldView g.row.E.Denot g.row.P.Denot). IsHeld (g.E.Engine.means v.engine) (record { state = g.P.Probe.state; start = g.P.Probe.start; next = g.P.Probe.next; shown = g.P.Probe.shown }) v) c.self.view_is c.self.invariant.held
+    subst (λ (v : HeldView g.row.E.Denot g.row.P.Denot). IsHeld (g.E.Engine.means v.engine) g.P.Probe v) c.self.view_is c.self.invariant.held

@@ -1,5 +1,5 @@
 use Rattle.std.proofs.Common.{◌-◌, vec_capacity, ap, subst, arith}
-use Rattle.mm_held.specs.Held.{HeldView, IsHeld, IsStarted, AreNewPasses, Telling}
+use Rattle.mm_held.specs.Held.{HeldView, IsHeld, IsStarted, AreNewPasses}
 use Rattle.mm_held.specs.Images.{Imaged, item}
 use Rattle.mm_held.specs.Loaded.{whole_part}
 use Rattle.mm_held.specs.Seats.{AreSeats}
@@ -20,10 +20,10 @@ invariant_of-held g c =
     let passes = c.in_ok-givers.passes.items in
     let seats = subst (λ rs. AreSeats 0 rs givers passes) c.deref.ensures.value c.in_ok-givers.ensures in
     sound_of_empty c.in_ok-counts.counts.items c.new.result.items c.in_ok-counts.ensures.items c.new.ensures.items
-    (began_sound (g.E.Engine.means c.args.engine) (record { state = g.P.Probe.state; start = g.P.Probe.start; next = g.P.Probe.next; shown = g.P.Probe.shown }) c.args.engine c.args.probe c.args.views images
+    (began_sound (g.E.Engine.means c.args.engine) g.P.Probe c.args.engine c.args.probe c.args.views images
     (item (c.args.next - 1) (whole_part c.args.views.private) 0) c.args.rooms.items givers passes c.args.groups (vec_capacity c.in_ok-counts.counts)
     c.in_ok-images.ensures.begun (ap (λ (i : Imaged). i.given) c.in_ok-images.ensures.images) c.in_ok-images.ensures.opening (ap (λ (i : Imaged). i.most) c.in_ok-images.ensures.images) c.in_ok-counts.ensures.exact
-    c.requires.untold seats (rooms_bound c.args.rooms.items c.requires.some_room) c.requires.all_rooms)
+    c.requires.untold seats (rooms_bound c.args.rooms.items c.requires.some_room) c.requires.all_rooms c.in_ok-images.ensures.imaged)
 
 pub returns-clause-started : goal.returns-clause-started
 returns-clause-started g c =
@@ -39,7 +39,7 @@ returns-clause-started g c =
 pub returns-clause-fact : goal.returns-clause-fact
 returns-clause-fact g c =
     let m = g.E.Engine.means c.args.engine in
-    let t : Telling g.row.P.Denot = record { state = g.P.Probe.state; start = g.P.Probe.start; next = g.P.Probe.next; shown = g.P.Probe.shown } in
+    let t = g.P.Probe in
     let images = c.in_ok-images.images in
     let givers = c.in_ok-givers.givers.items in
     let passes = c.in_ok-givers.passes.items in
@@ -49,7 +49,7 @@ returns-clause-fact g c =
     (began_sound m t c.args.engine c.args.probe c.args.views images
     (item (c.args.next - 1) (whole_part c.args.views.private) 0) c.args.rooms.items givers passes c.args.groups (vec_capacity c.in_ok-counts.counts)
     c.in_ok-images.ensures.begun (ap (λ (i : Imaged). i.given) c.in_ok-images.ensures.images) c.in_ok-images.ensures.opening (ap (λ (i : Imaged). i.most) c.in_ok-images.ensures.images) c.in_ok-counts.ensures.exact
-    c.requires.untold seats (rooms_bound c.args.rooms.items c.requires.some_room) c.requires.all_rooms).held
+    c.requires.untold seats (rooms_bound c.args.rooms.items c.requires.some_room) c.requires.all_rooms c.in_ok-images.ensures.imaged).held
 
 pub returns-clause-passes : goal.returns-clause-passes
 returns-clause-passes g c =

@@ -1,12 +1,12 @@
-use Rattle.std.proofs.Common.{◌≡◌, ◌+◌, ◌++◌, ◌∷◌, [], List, length, vec_capacity, refl, sym, ◌∙◌, ap, subst, arith}
+use Rattle.std.proofs.Common.{◌≡◌, ◌+◌, ◌≤◌, ◌++◌, ◌∷◌, [], List, length, vec_capacity, refl, sym, ◌∙◌, ap, subst, arith}
 use Rattle.mm_model.specs.declared.action.Entry.{Entry}
 use Rattle.mm_tie.specs.Ends.{taken}
 use Rattle.mm_held.specs.declared.pass.Mark.{Mark}
 use Rattle.mm_held.specs.Meaning.{Stored}
 use Rattle.mm_held.specs.Steps.{IsStep}
 use Rattle.mm_held.specs.Log.{AllGiven, mark}
-use Rattle.mm_held.specs.Held.{HeldView, IsEntered, Telling, entry, held_view, log_of, section_of}
-use Rattle.mm_held.proofs.Sound.{same_sound, some_stands, seat_there, room_there, sits_within, step_sound, step_entered, section_is}
+use Rattle.mm_held.specs.Held.{HeldView, IsEntered, entry, held_view, log_of, section_of}
+use Rattle.mm_held.proofs.Sound.{same_sound, some_stands, seat_there, room_there, sits_within, within_rooms, step_sound, step_entered, section_is}
 use Rattle.mm_held.proofs.Groups.{all_groups}
 use Rattle.mm_held.proofs.held.Held.step.Goals as goal
 
@@ -18,7 +18,7 @@ invariant_of-self-in_err-kept g c = same_sound c.self.invariant refl c.in_ok-res
 
 pub step-requires : goal.step-requires
 step-requires g c = record {
-  stands = some_stands (g.E.Engine.means c.self.inside.engine) (record { state = g.P.Probe.state; start = g.P.Probe.start; next = g.P.Probe.next; shown = g.P.Probe.shown })
+  stands = some_stands (g.E.Engine.means c.self.inside.engine) g.P.Probe
       (held_view c.self.inside.engine c.self.inside.probe c.self.inside.images c.self.inside.counts.items c.self.inside.log.items c.self.inside.givers.items) c.self.invariant.held;
 }
 
@@ -40,7 +40,7 @@ enter-requires-clause-room g c = room_there c.self.view_is c.args.pass.now c.req
 pub invariant_of-self-2 : goal.invariant_of-self-2
 invariant_of-self-2 g c =
     let m = g.E.Engine.means c.self.inside.engine in
-    let t : Telling g.row.P.Denot = record { state = g.P.Probe.state; start = g.P.Probe.start; next = g.P.Probe.next; shown = g.P.Probe.shown } in
+    let t = g.P.Probe in
     let e : Entry = entry c.args.pass.now.place c.args.line c.in_ok-kept.kept c.in_ok-answer.answer.kept in
     let old = c.self.inside.images in
     let new = c.step.new.self in
@@ -48,15 +48,17 @@ invariant_of-self-2 g c =
     λ db h. subst (λ cm. IsStep m db cm old.views new.views c.in_ok-answer.answer.kept) (sym c.in_ok-kept.ensures)
     (subst (λ r. IsStep m db c.args.command.now old.views new.views r) (sym c.in_ok-answer.ensures.twice) (c.in_ok-answer.ensures.step db h)) in
     let handed = subst (λ es. (marks : List Mark) → AllGiven c.self.inside.givers.items marks → AllGiven c.enter.new.givers.items (marks ++ mark (length es) (c.last-section.result + 1) e ∷ [])) c.in_ok-reserve.ensures.items c.enter.ensures.given in
+    let least : 1 ≤ c.args.pass.now.place + 1 = omega arith in
+    let most = within_rooms c.self.view_is c.self.inside.givers.items refl c.args.pass.now c.requires.seat in
     same_sound
     (step_sound m t c.self.inside.engine c.self.inside.probe c.enter.new.probe old new c.self.inside.counts.items c.self.inside.log.items c.self.inside.givers.items c.enter.new.givers.items c.self.inside.closed (vec_capacity c.self.inside.counts) e
-    c.self.invariant c.in_ok-answer.ensures.items step c.enter.ensures.told (c.last-section.result + 1) c.last-section.ensures.last handed c.enter.ensures.sessions)
+    c.self.invariant c.in_ok-answer.ensures.items step c.enter.ensures.told c.in_ok-answer.ensures.imaged least most (c.last-section.result + 1) c.last-section.ensures.last handed c.enter.ensures.sessions)
     refl (c.enter.ensures.log ∙ ap (λ es. es ++ e ∷ []) c.in_ok-reserve.ensures.items)
 
 pub returns-clause-entered : goal.returns-clause-entered
 returns-clause-entered g c =
     let m = g.E.Engine.means c.self.inside.engine in
-    let t : Telling g.row.P.Denot = record { state = g.P.Probe.state; start = g.P.Probe.start; next = g.P.Probe.next; shown = g.P.Probe.shown } in
+    let t = g.P.Probe in
     let place = c.args.pass.now.place in
     let e : Entry = entry place c.args.line c.in_ok-kept.kept c.in_ok-answer.answer.kept in
     let e' : Entry = entry place c.args.line c.args.command.now c.in_ok-answer.answer.reply in
@@ -81,7 +83,7 @@ returns-clause-entered g c =
 pub returns-clause-section : goal.returns-clause-section
 returns-clause-section g c =
     let m = g.E.Engine.means c.self.inside.engine in
-    let t : Telling g.row.P.Denot = record { state = g.P.Probe.state; start = g.P.Probe.start; next = g.P.Probe.next; shown = g.P.Probe.shown } in
+    let t = g.P.Probe in
     let e : Entry = entry c.args.pass.now.place c.args.line c.in_ok-kept.kept c.in_ok-answer.answer.kept in
     section_is m t c.self.inside.engine c.self.inside.probe c.enter.new.probe c.self.inside.images c.step.new.self c.self.inside.counts.items c.self.inside.log.items c.self.inside.givers.items c.enter.new.givers.items c.self.inside.closed (vec_capacity c.self.inside.counts) e
     c.self.invariant c.in_ok-answer.ensures.items (c.last-section.result + 1) c.last-section.ensures.last

@@ -1,8 +1,8 @@
 use Rattle.std.proofs.Common.{◌≡◌, ◌+◌, ◌-◌, ◌<◌, ◌++◌, ◌∷◌, [], length, vec_capacity, true, sym, ◌∙◌, ap, subst, arith, rules}
 use Rattle.std.specs.Vec.{vec_len}
 use Rattle.mm_tie.specs.Items.{Follows, image_of}
-use Rattle.mm_held.specs.Images.{Imaged}
-use Rattle.mm_held.specs.Held.{HeldView, Closes, Telling, held_view}
+use Rattle.mm_held.specs.Images.{Imaged, IsImaged}
+use Rattle.mm_held.specs.Held.{HeldView, Closes, held_view}
 use Rattle.mm_held.proofs.Sound.{images_there}
 use Rattle.mm_held.proofs.Closing.{close_sound, closed_sound, close_closes}
 use Rattle.mm_held.proofs.held.HeldOrigin.close.Goals as goal
@@ -36,11 +36,12 @@ invariant_of-self g c =
     let n = c.len.result - c.self.inside.closed in
     let len : c.len.result ≡ length log = search rules in
     let rest : n + c.self.inside.closed ≡ length log = omega (arith, len, c.self.invariant.within) in
-    let t : Telling g.row.P.Denot = record { state = g.P.Probe.state; start = g.P.Probe.start; next = g.P.Probe.next; shown = g.P.Probe.shown } in
+    let t = g.P.Probe in
     let whole = subst (λ (i : Imaged). image_of i.given ≡ i.views.private) c.close.ensures.closed c.close.ensures.whole in
+    let imaged = subst IsImaged c.close.ensures.closed c.close.ensures.imaged in
     let ends : c.len-self-inside.result ≡ length log = search rules in
     closed_sound
-    (close_sound (g.E.Engine.means engine) t engine p old counts log givers c.self.inside.closed (vec_capacity c.self.inside.counts) n c.close.result c.self.invariant rest c.close.ensures.item whole)
+    (close_sound (g.E.Engine.means engine) t engine p old counts log givers c.self.inside.closed (vec_capacity c.self.inside.counts) n c.close.result c.self.invariant rest c.close.ensures.item whole imaged)
     c.close.ensures.closed c.push_reserved.ensures.items ends c.push_reserved.ensures.capacity
 
 pub returns-clause-given : goal.returns-clause-given
@@ -63,7 +64,7 @@ returns-clause-closes g c =
     let n = c.len.result - c.self.inside.closed in
     let len : c.len.result ≡ length log = search rules in
     let rest : n + c.self.inside.closed ≡ length log = omega (arith, len, c.self.invariant.within) in
-    let t : Telling g.row.P.Denot = record { state = g.P.Probe.state; start = g.P.Probe.start; next = g.P.Probe.next; shown = g.P.Probe.shown } in
+    let t = g.P.Probe in
     let before : HeldView g.row.E.Denot g.row.P.Denot = held_view engine p old counts log givers in
     let closed = close_closes (g.E.Engine.means engine) t engine p old counts log givers c.self.inside.closed (vec_capacity c.self.inside.counts) n c.close.result c.self.invariant rest c.close.ensures.item in
     subst (λ v. Closes v (held_view engine p c.close.new.self c.push_reserved.new.self.items log givers)) c.self.view_is
