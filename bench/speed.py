@@ -4,16 +4,16 @@ reading documents through `play`.
 
 usage: bench/speed.py [RUNS]      (default: 5 runs of each size; the program is built first where it is missing)
 
-Prints for each size the median, the lines per second past start-up, and how much more time past start-up ten times the lines took. The
-start-up of `play` is the time of an empty script, that of `dump` the time of an empty folder. The folders are made in memory (/dev/shm)
-where the machine has that, since a disk's sync takes longer than all else at the smaller sizes. Documents are read before anything is
-stored, so those that find no space are read too: the last figures are of all of them, with their lines and hex digits.
+Prints for each size the median of the processor's time, the lines per second past start-up, and how much more time past start-up ten times
+the lines took. The start-up of `play` is the time of an empty script, that of `dump` the time of an empty folder. The folders are made in
+memory (/dev/shm) where the machine has that, so no disk is in the figures. Documents are read before anything is stored, so those that find
+no space are read too: the last figures are of all of them, with their lines and hex digits.
 """
+import os
 import statistics
 import subprocess
 import sys
 import tempfile
-import time
 from pathlib import Path
 
 TOP = Path(__file__).resolve().parent.parent
@@ -70,9 +70,15 @@ def lines_of(docs: list[bytes]) -> bytes:
 
 
 def timed(command: str, folder: str, text: bytes) -> float:
-    begin = time.perf_counter()
-    subprocess.run([PROGRAM, command, folder], input=text, stdout=subprocess.PIPE, check=True)
-    return time.perf_counter() - begin
+    """Seconds of the processor."""
+    with tempfile.TemporaryFile() as source:
+        source.write(text)
+        source.seek(0)
+        done = subprocess.Popen([PROGRAM, command, folder], stdin=source, stdout=subprocess.DEVNULL)
+        _, status, usage = os.wait4(done.pid, 0)
+    if status:
+        sys.exit(f"{command}: status {os.waitstatus_to_exitcode(status)}")
+    return usage.ru_utime + usage.ru_stime
 
 
 def medians(text: bytes | None, runs: int) -> tuple[float, float]:
