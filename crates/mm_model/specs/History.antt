@@ -1,5 +1,5 @@
 -- Histories: groups of entries, database by database.
-use Rattle.std.specs.Prelude.{ℕ, zero, suc, List, [], ◌∷◌, ◌++◌}
+use Rattle.std.specs.Prelude.{ℕ, zero, suc, List, [], ◌∷◌, ◌++◌, take, drop}
 use Rattle.mm_model.specs.declared.action.Entry.{Entry}
 use Rattle.mm_model.specs.Database.{Database}
 use Rattle.mm_model.specs.After.{after}
@@ -36,3 +36,11 @@ fold_entries name nodes db (e ∷ es) = fold_entries name nodes (after name node
 -- the database of number d after the groups
 abbrev pub fold : List ℕ → ℕ → ℕ → Database → List Group → Database
 fold name nodes d db groups = fold_entries name nodes db (entries_in d groups)
+
+-- a prefix of a history is by whole groups: its first k, or all where there are no more
+abbrev pub prefix : ℕ → List Group → List Group
+prefix k groups = take k groups
+
+-- the groups behind that prefix
+abbrev pub behind : ℕ → List Group → List Group
+behind k groups = drop k groups

@@ -15,7 +15,7 @@ use Rattle.mm_model.specs.Database.{Index, Collection, Database, id_name, id_of,
 use Rattle.mm_model.specs.Keyed.{has_array, same_key}
 use Rattle.mm_model.specs.Commands.{collection_of, index_named}
 use Rattle.mm_model.specs.After.{after}
-use Rattle.mm_model.specs.History.{Group, fold}
+use Rattle.mm_model.specs.History.{Group, flat, fold, prefix, behind}
 
 -- ---- what a database keeps
 
@@ -160,6 +160,12 @@ RemoveAllLeavesNone = (name : List ℕ) (nodes : ℕ) (db : Database) (coll : Li
 -- The database after two lists of groups is that after the second, from the one after the first.
 abbrev pub FoldsJoin : Type 0
 FoldsJoin = (name : List ℕ) (nodes d : ℕ) (db : Database) (groups others : List Group) → fold name nodes d db (groups ++ others) ≡ fold name nodes d (fold name nodes d db groups) others
+
+-- A prefix by whole groups: the flat history is that of the prefix and then that of the groups behind it, and the database after all groups is that after the ones behind, from the one after the prefix.
+abbrev pub FoldsPassPrefixes : Type 0
+FoldsPassPrefixes = (name : List ℕ) (nodes d : ℕ) (db : Database) (k : ℕ) (groups : List Group)
+    → (flat groups ≡ flat (prefix k groups) ++ flat (behind k groups))
+    × (fold name nodes d db groups ≡ fold name nodes d (fold name nodes d db (prefix k groups)) (behind k groups))
 
 -- ---- nodes
 

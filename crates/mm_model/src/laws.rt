@@ -1,7 +1,7 @@
 //! Laws of the definitions, each the contract of a function that does nothing.
 
 ghost use Rattle.mm_model.specs.Examples.{OneIdOfTwoTypes, UniqueIndex, IncPastEnds, AllOrNone};
-ghost use Rattle.mm_model.specs.Laws.{RefusedKeeps, FindKeeps, OthersStay, IndexingKeepsDocuments, DatabasesStay, FindCounts, RemoveCounts, UpdateCounts, InsertedIsFound, RemoveAllLeavesNone, FoldsJoin, RoomStays, CreateIsFull};
+ghost use Rattle.mm_model.specs.Laws.{RefusedKeeps, FindKeeps, OthersStay, IndexingKeepsDocuments, DatabasesStay, FindCounts, RemoveCounts, UpdateCounts, InsertedIsFound, RemoveAllLeavesNone, FoldsJoin, FoldsPassPrefixes, RoomStays, CreateIsFull};
 
 /// A refused command keeps the database.
 pub fn refusals_keep_the_database()
@@ -61,6 +61,12 @@ pub fn remove_all_leaves_none()
 /// The fold of a joined list of groups is the fold of the folds.
 pub fn folds_join()
     ensures { FoldsJoin }
+{}
+
+/// A prefix of a history is by whole groups, and its fold is on the way to that
+/// of the whole.
+pub fn folds_pass_prefixes()
+    ensures { FoldsPassPrefixes }
 {}
 
 /// The worked examples of specs/Examples.

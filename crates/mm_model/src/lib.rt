@@ -28,8 +28,8 @@ pub use command::Command;
 pub use finding::{CheckFault, Finding, What};
 pub use laws::{
     create_is_full, databases_stay_databases, find_counts_what_matches, finds_keep_the_database,
-    folds_join, indexing_keeps_documents, inserted_is_found, other_collections_stay,
-    refusals_keep_the_database, remove_all_leaves_none, remove_counts_what_matches, room_stays,
-    update_counts_what_matches, worked_examples,
+    folds_join, folds_pass_prefixes, indexing_keeps_documents, inserted_is_found,
+    other_collections_stay, refusals_keep_the_database, remove_all_leaves_none,
+    remove_counts_what_matches, room_stays, update_counts_what_matches, worked_examples,
 };
 pub use reply::Reply;
