@@ -1,5 +1,5 @@
 -- All files of the journal are removed.
-use Rattle.std.proofs.Common.{◌≡◌, inr, ℕ, ◌+◌, ◌-◌, ◌^◌, ◌≤◌, true, length, take, Option, refl, sym, ◌∙◌, ap, subst, arith}
+use Rattle.std.proofs.Common.{◌≡◌, inr, ℕ, List, [], ◌∷◌, drop, ◌+◌, ◌-◌, ◌^◌, ◌≤◌, true, length, take, Option, refl, sym, ◌∙◌, ap, subst, arith}
 use Rattle.std.specs.Prelude.{◌==◌}
 use Rattle.std.proofs.lemmas.Bool.Decides.{nat_tests}
 use Rattle.std.proofs.lemmas.List.{length-map, length-take-le, length-drop, take_all}
@@ -18,6 +18,10 @@ use Rattle.mm_durable.specs.Names.{db_of}
 use Rattle.mm_durable.specs.Log.{IsSound, IsKept, Keeps, synced, sealed, is_marked}
 use Rattle.mm_durable.specs.declared.log.Log.{Log}
 use Rattle.mm_durable.proofs.Steps.{AreSafe, keeps}
+
+pub drop_all : (lasts : List ℕ) → drop (length lasts) lasts ≡ []
+drop_all [] = refl
+drop_all (n ∷ lasts) = drop_all lasts
 
 module _ (old : Log) (sound : IsSound old) (k : ℕ) where
   -- how many files may be removed

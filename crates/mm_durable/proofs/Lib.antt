@@ -23,3 +23,4 @@ pub mod Openings
 pub mod Parts
 pub mod Counted
 pub mod Gone
+pub mod Standing

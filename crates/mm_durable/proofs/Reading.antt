@@ -21,7 +21,7 @@ use Rattle.mm_durable.specs.declared.log.Log.{Log}
 use Rattle.mm_durable.proofs.Flushes.{names_are}
 
 -- after k sections the files of each database read its items 0 to k
-state_reads : (names : List (List ℕ)) (items : Taken) (story : Story) → HasImages names items story → (k : ℕ) → k ≤ length story.sections → (n : List ℕ) → is_ours names n ≡ true → (f : ℕ) → is_file f ≡ true
+pub state_reads : (names : List (List ℕ)) (items : Taken) (story : Story) → HasImages names items story → (k : ℕ) → k ≤ length story.sections → (n : List ℕ) → is_ours names n ≡ true → (f : ℕ) → is_file f ≡ true
     → state the_names story k (disk_name n f) ≡ get (images_of (first_items (k + 1) items) n) f
 state_reads names items story has k le n is f file =
     ap (λ (name : List ℕ → ℕ → List ℕ). over (entries_of name (take k story.sections)) (disk_name n f) (story.base (disk_name n f))) names_are

@@ -3,7 +3,7 @@ use Rattle.std.specs.Prelude.{List, [], ◌∷◌, ◌++◌, ◌≡◌, ℕ, ◌
 use Rattle.mm_outside.specs.Told.{Told}
 use Rattle.mm_section.specs.declared.section.Section.{Section}
 use Rattle.mm_outside.specs.Leaves.{Leaves}
-use Rattle.mm_jfiles.specs.Files.{next_number}
+use Rattle.mm_jfiles.specs.Files.{next_number, dropped, how_many}
 use Rattle.mm_crash.specs.Journal.{AllCan}
 use Rattle.mm_crash.specs.Story.{Story}
 use Rattle.mm_crash.specs.Rest.{Counts}
@@ -108,6 +108,14 @@ pub record HasMarked (old new : Log) : Type 0 where
   pub receipts_kept : new.receipts.items ≡ old.receipts.items
   pub flushed_kept : new.flushed.items ≡ old.flushed.items
   pub floor_kept : new.floor ≡ old.floor
+
+-- The journal's files are those from the first on that has a section above the marked number, or from the last on.
+abbrev pub HasTrimmed : Log → Log → Type 0
+HasTrimmed old new = new.journal ≡ dropped (how_many (old.last + old.mark) old.journal.lasts) old.journal
+
+-- the journal has no file
+abbrev pub HasCleared : Log → Type 0
+HasCleared new = new.journal.lasts ≡ []
 
 -- one section more is sealed
 pub record HasMore (old : Log) (section : Section) (new : Log) : Type 0 where

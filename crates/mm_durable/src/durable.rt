@@ -11,7 +11,7 @@ ghost use Rattle.mm_crash.specs.Rest.{IsRecovered, new_story};
 ghost use Rattle.mm_journal.proofs.Real.{the_format, the_names};
 ghost use Rattle.mm_prefix.specs.Prefix.{at_first};
 ghost use Rattle.mm_durable.specs.Names.{AreDatabases};
-ghost use Rattle.mm_durable.specs.Log.{IsSound, IsKept, IsBegun, IsFloor, KeepsRun, KeepsCounts, HasLogged, HasFlushed, HasSynced, HasMarked, HasMore, HasReceipt, HasNoReceipt, sealed, synced, has_pending, is_marked};
+ghost use Rattle.mm_durable.specs.Log.{IsSound, IsKept, IsBegun, IsFloor, KeepsRun, KeepsCounts, HasLogged, HasFlushed, HasSynced, HasMarked, HasTrimmed, HasCleared, HasMore, HasReceipt, HasNoReceipt, sealed, synced, has_pending, is_marked};
 ghost use Rattle.mm_durable.specs.Intake.{IsIntake, IsOwn, HasTaken, HasEntry, KeepsFeeds, GivesNext, lists, rooms, rings};
 ghost use Rattle.mm_durable.specs.Flushed.{flushed_bytes, unflushed};
 ghost use Rattle.mm_durable.specs.Durable.{IsOrderly, IsServed, ReadItems, Serves, StillServes, ServesSealed, LeavesOff, SameItems, SameButGone, AllClosed, items_of, is_ready, has_closed, next_section};
@@ -263,6 +263,7 @@ impl<D: Disk> Durable<D> {
         ensures orderly { OnOk result (IsOrderly self.new) }
         ensures same { OnOk result (SameItems self.old self.new) }
         ensures counts { OnOk result (HasMarked self.old.log self.new.log) }
+        ensures still { self.old.log.mark ≡ self.old.log.floor → D.told self.new.disk ≡ D.told self.old.disk }
         ensures kept { OnOk result (Serves self.old self.new (D.told self.old.disk) (D.told self.new.disk)) }
         ensures left { OnErr result (LeavesOff self.old (D.told self.old.disk) (D.told self.new.disk)) }
         ensures going { OnOk result (self.new.ended ≡ false) }
@@ -282,6 +283,7 @@ impl<D: Disk> Durable<D> {
         ensures orderly { OnOk result (IsOrderly self.new) }
         ensures same { OnOk result (SameItems self.old self.new) }
         ensures counts { OnOk result (KeepsCounts self.old.log self.new.log) }
+        ensures trimmed { OnOk result (HasTrimmed self.old.log self.new.log) }
         ensures kept { OnOk result (Serves self.old self.new (D.told self.old.disk) (D.told self.new.disk)) }
         ensures left { OnErr result (LeavesOff self.old (D.told self.old.disk) (D.told self.new.disk)) }
         ensures going { OnOk result (self.new.ended ≡ false) }
@@ -302,6 +304,7 @@ impl<D: Disk> Durable<D> {
         ensures orderly { OnOk result (IsOrderly self.new) }
         ensures same { OnOk result (SameItems self.old self.new) }
         ensures counts { OnOk result (KeepsCounts self.old.log self.new.log) }
+        ensures cleared { OnOk result (HasCleared self.new.log) }
         ensures kept { OnOk result (Serves self.old self.new (D.told self.old.disk) (D.told self.new.disk)) }
         ensures left { OnErr result (LeavesOff self.old (D.told self.old.disk) (D.told self.new.disk)) }
         ensures going { OnOk result (self.new.ended ≡ false) }

@@ -1,6 +1,7 @@
 //! What a crash leaves of a run.
 
-ghost use Rattle.mm_durable.specs.Laws.{EachMomentIsPrefix, RecoversPrefix, HoldsAcknowledged, ServesItems};
+ghost use Rattle.mm_durable.specs.Laws.{EachMomentIsPrefix, RecoversPrefix, HoldsAcknowledged, ServesItems, HoldsGroups, StandsNow};
+ghost use Rattle.mm_durable.specs.Durable.{IsOrderly};
 
 use crate::durable::Durable;
 use crate::log::Log;
@@ -21,10 +22,21 @@ pub fn crashes_leave_a_prefix(log: &Log)
 
 /// Of a durable side whose fact holds, where the disk tells and no torn record passes its check by chance: what a crash at any moment
 /// leaves is recovered to the files that the items of the groups give, up to one group that is the same for all databases: the last that
-/// was synced before that moment, or the one after it. However often recovery is stopped by a crash, the next one has the same. The call
-/// does nothing.
+/// was synced before that moment, or the one after it. However often recovery is stopped by a crash, the next one has the same. A group whose
+/// receipt is of an earlier moment is among them. The call does nothing.
 pub fn crashes_leave_items<D: Disk>(durable: &Durable<D>)
     ensures items { ServesItems durable.now }
+    ensures acknowledged { HoldsGroups durable.now }
+{
+    let _ = durable.ended();
+}
+
+/// Of a durable side whose fact holds, where the disk tells: what stands on the disk. Each database's files read the image of its items up
+/// to the last section that was flushed there, the lsn file holds the marked number, and a cleared journal has no file. The call does
+/// nothing.
+pub fn files_read_flushed_items<D: Disk>(durable: &Durable<D>)
+    requires { IsOrderly durable.now }
+    ensures { StandsNow durable.now }
 {
     let _ = durable.ended();
 }

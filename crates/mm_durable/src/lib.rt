@@ -24,5 +24,5 @@ mod spelling;
 mod syncing;
 
 pub use durable::Durable;
-pub use laws::{crashes_leave_a_prefix, crashes_leave_items};
+pub use laws::{crashes_leave_a_prefix, crashes_leave_items, files_read_flushed_items};
 pub use log::{Log, Receipt};

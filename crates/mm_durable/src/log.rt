@@ -53,7 +53,7 @@ impl Log {
     ghost use Rattle.mm_prefix.specs.Prefix.{Numbers, at_first};
     ghost use Rattle.mm_durable.specs.Names.{AreDatabases, ArePartsOf};
     ghost use Rattle.mm_durable.specs.Flushed.{flushed_bytes, unflushed};
-    ghost use Rattle.mm_durable.specs.Log.{IsFloor, IsSound, IsKept, IsBegun, KeepsRun, KeepsCounts, LetsGo, HasLogged, HasFlushed, HasSynced, HasMarked, HasMore, Keeps, Leaving, HasReceipt, HasNoReceipt, sealed, synced, has_pending, is_marked};
+    ghost use Rattle.mm_durable.specs.Log.{IsFloor, IsSound, IsKept, IsBegun, KeepsRun, KeepsCounts, LetsGo, HasLogged, HasFlushed, HasSynced, HasMarked, HasTrimmed, HasCleared, HasMore, Keeps, Leaving, HasReceipt, HasNoReceipt, sealed, synced, has_pending, is_marked};
 
     /// A run that has no section yet, over a disk that was recovered, with this number in its lsn file.
     pub fn start(alloc: Global, names: Vec<Name>, limit: u64, last: u64) -> Result<Log, NoMemory>
@@ -286,6 +286,7 @@ impl Log {
         ensures sound { OnOk result (IsSound self.new) }
         ensures run { OnOk result (KeepsRun self.old self.new) }
         ensures counts { OnOk result (HasMarked self.old self.new) }
+        ensures still { self.old.mark ≡ self.old.floor → D.told disk.new ≡ D.told disk.old }
         ensures kept { OnOk result (Keeps self.old self.new (D.told disk.old) (D.told disk.new)) }
         ensures left { OnErr result (Leaving self.old (D.told disk.old) (D.told disk.new)) }
         ensures cause { HasCause Fault (D.faults disk.old) (D.faults disk.new) result }
@@ -303,6 +304,7 @@ impl Log {
         ensures sound { OnOk result (IsSound self.new) }
         ensures run { OnOk result (KeepsRun self.old self.new) }
         ensures counts { OnOk result (KeepsCounts self.old self.new) }
+        ensures trimmed { OnOk result (HasTrimmed self.old self.new) }
         ensures kept { OnOk result (Keeps self.old self.new (D.told disk.old) (D.told disk.new)) }
         ensures left { OnErr result (Leaving self.old (D.told disk.old) (D.told disk.new)) }
         ensures cause { HasCause Fault (D.faults disk.old) (D.faults disk.new) result }
@@ -318,6 +320,7 @@ impl Log {
         ensures sound { OnOk result (IsSound self.new) }
         ensures run { OnOk result (KeepsRun self.old self.new) }
         ensures counts { OnOk result (KeepsCounts self.old self.new) }
+        ensures cleared { OnOk result (HasCleared self.new) }
         ensures kept { OnOk result (Keeps self.old self.new (D.told disk.old) (D.told disk.new)) }
         ensures left { OnErr result (Leaving self.old (D.told disk.old) (D.told disk.new)) }
         ensures cause { HasCause Fault (D.faults disk.old) (D.faults disk.new) result }

@@ -1,7 +1,7 @@
-use Rattle.std.proofs.Common.{length}
-use Rattle.mm_jfiles.specs.Files.{remove_asks}
+use Rattle.std.proofs.Common.{length, ◌∙◌, ap}
+use Rattle.mm_jfiles.specs.Files.{Files, remove_asks}
 use Rattle.mm_durable.proofs.Steps.{on_err_holds, leaving}
-use Rattle.mm_durable.proofs.Clears.{all_may_go, removing_safe, removed}
+use Rattle.mm_durable.proofs.Clears.{all_may_go, removing_safe, removed, drop_all}
 use Rattle.mm_durable.proofs.log.Log.clear.Goals as goal
 
 pub returns-in_err-clear-clause-left : goal.returns-in_err-clear-clause-left
@@ -15,3 +15,6 @@ returns-clause-kept g c =
     let old = c.args.self.now in
     let k = length old.journal.lasts in
     removed old c.requires.sound k (all_may_go old c.requires.sound c.requires.marked) c.clear.new.self c.in_ok-clear.ensures.state _ _ c.in_ok-clear.ensures.made
+
+pub returns-clause-cleared : goal.returns-clause-cleared
+returns-clause-cleared g c = ap (λ (f : Files). f.lasts) c.in_ok-clear.ensures.state ∙ drop_all c.args.self.now.journal.lasts

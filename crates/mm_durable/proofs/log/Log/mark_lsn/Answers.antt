@@ -1,4 +1,4 @@
-use Rattle.std.proofs.Common.{◌+◌}
+use Rattle.std.proofs.Common.{◌+◌, refl, arith}
 use Rattle.mm_jfiles.specs.Marks.{mark_asks}
 use Rattle.mm_durable.proofs.Steps.{on_err_holds, leaving}
 use Rattle.mm_durable.proofs.Marks.{marking_safe, marked, idle}
@@ -14,3 +14,12 @@ returns-in_ok-write_mark-clause-kept g c = marked c.args.self.now c.requires.sou
 
 pub returns-else-self-clause-kept : goal.returns-else-self-clause-kept
 returns-else-self-clause-kept g c = idle c.args.self.now c.requires.sound _
+
+pub returns-in_err-write_mark-clause-still : goal.returns-in_err-write_mark-clause-still
+returns-in_err-write_mark-clause-still g c = λ same. absurd (omega (arith, same, c.if-self.true))
+
+pub returns-in_ok-write_mark-clause-still : goal.returns-in_ok-write_mark-clause-still
+returns-in_ok-write_mark-clause-still g c = λ same. absurd (omega (arith, same, c.if-self.true))
+
+pub returns-else-self-clause-still : goal.returns-else-self-clause-still
+returns-else-self-clause-still g c = λ same. refl

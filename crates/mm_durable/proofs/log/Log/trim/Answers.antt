@@ -19,3 +19,6 @@ returns-clause-kept g c =
     let old = c.args.self.now in
     let k = how_many (old.last + old.mark) old.journal.lasts in
     removed old c.requires.sound k (marked_may_go old c.requires.sound) c.trim.new.self c.in_ok-trim.ensures.state _ _ c.in_ok-trim.ensures.made
+
+pub returns-clause-trimmed : goal.returns-clause-trimmed
+returns-clause-trimmed g c = c.in_ok-trim.ensures.state
