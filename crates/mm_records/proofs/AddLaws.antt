@@ -34,6 +34,8 @@ cut_whole s name p r room lv lt = record {
   extents = λ m. refl;
   records = λ e. refl;
   lists = λ m i. sym (none m i);
+  whole = λ _ q. refl;
+  parted = λ le. absurd (omega (arith, lt, le));
 }
   where
     none : (m : List ℕ) (i : ℕ) → (if is_rest name r (16 + length room) m i then behind_of p r ∷ s.lists m i else s.lists m i) ≡ s.lists m i
@@ -49,6 +51,8 @@ cut_short s t name p r room le c = record {
   records = c.records;
   lists = λ m i. c.lists m i ∙ (let no : nat_lt (16 + length room) (r + 32) ≡ false = grind (arith, nat_tests) in
       sym (ap (λ (b : Bool). if (not b && (is_name m name && i == list_for (16 + length room - r))) then behind_of p r ∷ s.lists m i else s.lists m i) no));
+  whole = λ lt. absurd (omega (arith, le, lt));
+  parted = λ _. c.parted;
 }
 
 -- how long the room of a cut record is
@@ -92,4 +96,15 @@ added s s1 s2 t name p r rest payload front long fits a b c =
       extents = λ m. c.extents m ∙ b.extents m ∙ a.extents m;
       records = λ e. c.records e ∙ b.records e ∙ a.records e;
       lists = λ m i. c.lists m i ∙ b.lists m i ∙ ap (λ (xs : List Place). if is_rest name r (16 + length rest) m i then behind_of p r ∷ xs else xs) (a.lists m i);
+      whole = λ lt q. c.layout q ∙ b.whole lt q ∙ a.layout q;
+      parted = λ le.
+          let x = b.parted le in
+          record {
+            ext = x.ext;
+            len = x.len;
+            was = sym (a.layout p) ∙ x.was;
+            front = c.layout p ∙ x.front;
+            behind = c.layout (behind_of p r) ∙ x.behind;
+            others = λ q m n. c.layout q ∙ x.others q m n ∙ a.layout q;
+          };
     }

@@ -278,4 +278,5 @@ module _ (image : Image) (free : List ℕ) (s : Shape) (node : ℕ) (d : Details
     extents = λ m. refl;
     records = λ f. refl;
     lists = λ m i. refl;
+    layout = x.ground_off image free s node d len g;
   }

@@ -80,6 +80,12 @@ plain_outline (Some (extent h)) = refl
 plain_outline (Some (live h room)) = refl
 plain_outline (Some (deleted h rest)) = refl
 
+links_outline : (o : Option Cell) → option_map outline (without_links o) ≡ option_map outline o
+links_outline None = refl
+links_outline (Some (extent h)) = refl
+links_outline (Some (live h room)) = refl
+links_outline (Some (deleted h rest)) = refl
+
 passed_off : (o : Option Place) (z : DiskLoc) (H : Heap) (q : Place) → ((x : Place) → o ≡ Some x → same x q ≡ false) → next_passed o z H q ≡ H q
 passed_off None z H q n = refl
 passed_off (Some x) z H q n = changed_there x q (xnext_set z) H (n x refl)
@@ -352,3 +358,6 @@ module _ (image : Image) (free : List ℕ) (s : Shape) (node : ℕ) (d : Details
 
   pub ground_t : (q : Place) → ground u q ≡ ground g.t q
   ground_t q = sym (plain_outline (u q)) ∙ ap (λ (o : Option Cell). option_map outline o) (linked_plain last g.e head g.t q) ∙ plain_outline (g.t q)
+
+  pub ground_off : (q : Place) → same g.e q ≡ false → same (behind_of g.e 176) q ≡ false → ground u q ≡ ground s.heap q
+  ground_off q ne nb = ground_t q ∙ sym (links_outline (g.t q)) ∙ ap (λ (o : Option Cell). option_map outline o) (g.fresh.others q ne nb) ∙ links_outline (s.heap q)

@@ -12,6 +12,7 @@ use Rattle.mm_records.specs.Stands.{IsOwn}
 use Rattle.mm_records.specs.Freeing.{freed_shape}
 use Rattle.mm_records.specs.Map.{name_at, IsTakenOut, IsFreed}
 use Rattle.mm_records.proofs.FreedCounts.{none}
+use Rattle.mm_records.proofs.FreedStands.{ground_same}
 
 pub freed_whole : (image : Image) (free : List ℕ) (s : Shape) (node : ℕ) (p : Place) (room : List ℕ) (own : IsOwn image free s node p) → own.room ≡ room
     → IsTakenOut s (freed_shape (text_in own.hh.namespace) own.a p own.h (16 + length own.room) s) p
@@ -25,4 +26,5 @@ freed_whole image free s node p room own e map = record {
         ∙ sym (without_none (s.records f) p (none s p own.h own.room own.a own.hh own.stands.extents own.stands.records own.stands.lists own.here own.ext own.there f n))
   ];
   lists = λ m i. (λ j. if is_name m (own.named j) && i == list_for (16 + length (e j)) then p ∷ s.lists m i else s.lists m i);
+  layout = ground_same s p own.h own.room own.a own.hh own.stands.extents own.stands.records own.stands.lists own.here own.ext own.there;
 }

@@ -1,5 +1,5 @@
 -- What is left where a payload fits nowhere.
-use Rattle.std.proofs.Common.{◌≡◌, ℕ, List, sym, ◌∙◌, ap, subst}
+use Rattle.std.proofs.Common.{ℕ, List, sym, ◌∙◌, ap, subst}
 use Rattle.std.specs.FinMap.{get}
 use Rattle.mm_ranges.specs.Overlay.{Image}
 use Rattle.mm_frames.specs.Texts.{text_in}
@@ -8,7 +8,7 @@ use Rattle.mm_nstable.specs.Table.{table_of}
 use Rattle.mm_nstable.specs.FreeChain.{HasFreeChain, ends_of}
 use Rattle.mm_extents.specs.FreeExtents.{HasFree, IsLeftFull}
 use Rattle.mm_records.specs.Shape.{Shape}
-use Rattle.mm_records.specs.Stands.{Stands, ns_in}
+use Rattle.mm_records.specs.Stands.{Stands}
 use Rattle.mm_records.specs.Asking.{extent_len, NoFit}
 
 -- the free extents, as the details of their node name them

@@ -166,6 +166,7 @@ module _ (s : Shape) (p : Place) (h : RecHeader) (room room' : List ℕ) (long :
     extents = λ m. refl;
     records = λ e. refl;
     lists = λ m i. refl;
+    layout = ground_again;
   }
 
 pub overwritten_none : (k : ℕ) (room : List ℕ) → k ≤ length room → overwritten k [] room ≡ room

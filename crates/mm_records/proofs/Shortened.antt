@@ -228,14 +228,22 @@ module _ (image : Image) (free : List ℕ) (s : Shape) (node : ℕ) (d : Details
 
   -- ---- tiling
 
+  front_now : ground new.heap p ≡ Some (a_block h.extent_ofs (pos r) r)
+  front_now =
+      let y = front_long in let w = can.front in
+      ap (λ (o : Option Cell). option_map outline o) new_here ∙ ap (λ (m : ℕ). Some (a_block h.extent_ofs (pos r) m)) (let e : 16 + length (take (r - 16) room) ≡ r = omega (arith, y, w) in e)
+
+  behind_now : ground new.heap b ≡ Some (a_block h.extent_ofs (pos (n - r)) (n - r))
+  behind_now = ap (λ (o : Option Cell). option_map outline o) new_behind ∙ ap (λ (m : ℕ). Some (a_block h.extent_ofs (pos (n - r)) m)) rest_size
+
+  others_now : (q : Place) → same p q ≡ false → same b q ≡ false → ground new.heap q ≡ ground s.heap q
+  others_now q m k = ap (λ (o : Option Cell). option_map outline o) (elsewhere q m k)
+
   tiled_now : IsTiled (ground new.heap) (unused_in image) free
   tiled_now =
-      let x = fits in let y = front_long in let z = rest_size in
+      let x = fits in
       split_tiled (ground s.heap) (ground new.heap) (unused_in image) free st.tiled p r n h.extent_ofs h.length_with_headers (ap (λ (o : Option Cell). option_map outline o) here) can.front (let w = can.rest in omega (arith, w)) (omega (arith, x))
-      (ap (λ (o : Option Cell). option_map outline o) empty)
-      (ap (λ (o : Option Cell). option_map outline o) new_here ∙ ap (λ (m : ℕ). Some (a_block h.extent_ofs (pos r) m)) (let w = can.front in let e : 16 + length (take (r - 16) room) ≡ r = omega (arith, y, w) in e))
-      (ap (λ (o : Option Cell). option_map outline o) new_behind ∙ ap (λ (m : ℕ). Some (a_block h.extent_ofs (pos (n - r)) m)) z)
-      (λ q m k. ap (λ (o : Option Cell). option_map outline o) (elsewhere q m k))
+      (ap (λ (o : Option Cell). option_map outline o) empty) front_now behind_now others_now
 
   -- ---- the counts
 
@@ -333,6 +341,7 @@ module _ (image : Image) (free : List ℕ) (s : Shape) (node : ℕ) (d : Details
     extents = λ m. refl;
     records = λ e. refl;
     lists = λ m i. refl;
+    parted = record { ext = h.extent_ofs; len = h.length_with_headers; was = ap (λ (o : Option Cell). option_map outline o) here; front = front_now; behind = behind_now; others = others_now };
   }
 
   pub stands_shortened : (d' : Details) (i' : Image) → KeepsHeaders image i' → IsHeap i' new.heap → DetailsStand new name d' → StandsWith i' free new node d'

@@ -22,7 +22,7 @@ use Rattle.mm_records.proofs.Freed.{name_own}
 use Rattle.mm_records.proofs.ConstantLaws.{constants_stay}
 use Rattle.mm_records.proofs.Counts.{walk_other, walk_without, length_sum}
 use Rattle.mm_records.proofs.Bare.{bare}
-use Rattle.mm_records.proofs.TakenStands.{new_here, other, alike, off_chain, room_other, ext_len_same, list_other, only_list}
+use Rattle.mm_records.proofs.TakenStands.{new_here, other, alike, ground_same, off_chain, room_other, ext_len_same, list_other, only_list}
 
 without_appended : (xs : List Place) (p : Place) → has xs p ≡ false → without p (appended xs p) ≡ xs
 without_appended [] p h = without_here p [] p (same_own p)
@@ -201,4 +201,5 @@ module _ {free : List ℕ} (s : Shape) (p : Place) (h : DeletedHeader) (rest : L
     extents = λ m. refl;
     records = λ e. refl;
     lists = λ m i. refl;
+    layout = ground_same s p h rest a hh before es rs ls here ext there stands;
   }

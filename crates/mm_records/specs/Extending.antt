@@ -1,12 +1,13 @@
 -- What a new extent makes of a shape.
-use Rattle.std.specs.Prelude.{◌≡◌, ℕ, pos, ◌+◌, ◌-◌, ◌≤◌, ◌&&◌, ◌==◌, if◌then◌else◌, List, ◌∷◌, length, Option, Some}
+use Rattle.std.specs.Prelude.{◌≡◌, ℕ, pos, ◌+◌, ◌-◌, ◌≤◌, ◌&&◌, ◌==◌, false, if◌then◌else◌, List, ◌∷◌, length, Option, Some}
 use Rattle.mm_frames.specs.declared.extent_header.ExtentHeader.{ExtentHeader}
 use Rattle.mm_frames.specs.declared.deleted_header.DeletedHeader.{DeletedHeader}
 use Rattle.mm_base.specs.declared.place.DiskLoc.{DiskLoc}
 use Rattle.mm_ranges.specs.Overlay.{Image}
-use Rattle.mm_links.specs.Links.{Place, first_of, last_of, appended}
+use Rattle.mm_links.specs.Links.{Place, same, first_of, last_of, appended}
 use Rattle.mm_extents.specs.Heap.{Heap, extent, deleted, IsHeap, change}
 use Rattle.mm_extents.specs.Changes.{loc, loc_or, LowOr, xprev_set, deleted_next_set, behind_of}
+use Rattle.mm_extents.specs.Tiling.{ground}
 use Rattle.mm_extents.specs.FreeExtents.{IsPlaced, next_passed, ExtentOr}
 use Rattle.mm_records.specs.Constants.{is_name}
 use Rattle.mm_records.specs.Shape.{Shape, list_for}
@@ -35,7 +36,7 @@ extended_shape free name e n chain heap s = record s {
   lists = λ m i. if is_name m name && i == list_for (n - 176) then behind_of e 176 ∷ s.lists m i else s.lists m i;
 }
 
--- The namespace has one more extent, at e and of n bytes, the last of its chain. Its whole room is a deleted block, which heads the list of its length. The maps of all namespaces stay.
+-- The namespace has one more extent, at e and of n bytes, the last of its chain. Its whole room is a deleted block, which heads the list of its length. The maps of all namespaces stay, and so do all other extents and blocks, with their lengths.
 pub record IsExtended (image : Image) (s t : Shape) (free name : List ℕ) (len : ℕ) (e : Place) (n : ℕ) : Type 0 where
   pub chain : List Place
   pub placed : IsPlaced image s.heap (s.extents free) chain e len n
@@ -51,3 +52,4 @@ pub record IsExtended (image : Image) (s t : Shape) (free name : List ℕ) (len 
   pub extents : (m : List ℕ) → t.extents m ≡ (if is_name m free then chain else (if is_name m name then appended (s.extents m) e else s.extents m))
   pub records : (f : Place) → t.records f ≡ s.records f
   pub lists : (m : List ℕ) (i : ℕ) → t.lists m i ≡ (if is_name m name && i == list_for (n - 176) then behind_of e 176 ∷ s.lists m i else s.lists m i)
+  pub layout : (q : Place) → same e q ≡ false → same (behind_of e 176) q ≡ false → ground t.heap q ≡ ground s.heap q

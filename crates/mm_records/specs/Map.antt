@@ -9,6 +9,7 @@ use Rattle.mm_extents.specs.Heap.{Cell, extent, live, deleted}
 use Rattle.mm_frames.specs.Texts.{text_in}
 use Rattle.mm_records.specs.Constants.{is_name}
 use Rattle.mm_extents.specs.Changes.{loc}
+use Rattle.mm_extents.specs.Tiling.{ground}
 use Rattle.mm_records.specs.Shape.{Shape, list_for}
 use Rattle.mm_records.specs.Stands.{Stands, IsNode, ns_in}
 
@@ -51,6 +52,10 @@ pub record HasRecord (image : Image) (free : List ℕ) (s : Shape) (node : ℕ) 
   pub named : at ≡ loc p
   pub live : live_at s (name_at image node) p ≡ Some room
 
+-- Every extent and every block, live or deleted, stays where it is, with its length.
+abbrev pub SameLayout : Shape → Shape → Type 0
+SameLayout s t = (q : Place) → ground t.heap q ≡ ground s.heap q
+
 -- One place is taken out of the maps of all namespaces, and every other stays.
 pub record IsTakenOut (s t : Shape) (p : Place) : Type 0 where
   pub gone : (m : List ℕ) → live_at t m p ≡ None
@@ -62,6 +67,7 @@ pub record IsFreed (s t : Shape) (name : List ℕ) (p : Place) (len : ℕ) : Typ
   pub extents : (m : List ℕ) → t.extents m ≡ s.extents m
   pub records : (e : Place) → t.records e ≡ without p (s.records e)
   pub lists : (m : List ℕ) (i : ℕ) → t.lists m i ≡ (if is_name m name && i == list_for len then p ∷ s.lists m i else s.lists m i)
+  pub layout : SameLayout s t
 
 -- A record has another room, and every other of all namespaces stays; no chain and no list changes.
 pub record IsRewritten (s t : Shape) (p : Place) (room : List ℕ) : Type 0 where
@@ -70,3 +76,4 @@ pub record IsRewritten (s t : Shape) (p : Place) (room : List ℕ) : Type 0 wher
   pub extents : (m : List ℕ) → t.extents m ≡ s.extents m
   pub records : (e : Place) → t.records e ≡ s.records e
   pub lists : (m : List ℕ) (i : ℕ) → t.lists m i ≡ s.lists m i
+  pub layout : SameLayout s t

@@ -9,7 +9,7 @@ use Rattle.mm_extents.specs.Heap.{extent, deleted, Heap, IsHeap, change}
 use Rattle.mm_extents.specs.Changes.{loc_or, ofs_or, LowOr, deleted_next_set, taken}
 use Rattle.mm_records.specs.Shape.{Shape}
 use Rattle.mm_records.specs.Freeing.{forward, backward}
-use Rattle.mm_records.specs.Map.{live_at}
+use Rattle.mm_records.specs.Map.{live_at, SameLayout}
 
 -- the link to a block goes past it: in the block before it
 abbrev pub list_passed : Option Place → DiskLoc → Heap → Heap
@@ -62,3 +62,4 @@ pub record IsTaken (s t : Shape) (name : List ℕ) (p : Place) (room : List ℕ)
   pub extents : (m : List ℕ) → t.extents m ≡ s.extents m
   pub records : (e : Place) → t.records e ≡ (if same e of then appended (s.records e) p else s.records e)
   pub lists : (m : List ℕ) (i : ℕ) → t.lists m i ≡ without p (s.lists m i)
+  pub layout : SameLayout s t

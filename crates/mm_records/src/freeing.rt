@@ -3,6 +3,7 @@
 ghost use Rattle.std.specs.Prelude.{◌≡◌, ℕ, ℤ, pos, ◌+◌, ◌^◌, ◌<◌, ◌≤◌, ◌≤ℤ◌, ◌==◌, true, false, List, Some, length, OnOk, slice_set, slice_index_or, IsTrue};
 ghost use Rattle.mm_base.specs.Places.{null};
 ghost use Rattle.mm_extents.specs.Changes.{loc, DeclaresAtMost};
+ghost use Rattle.mm_extents.specs.Room.{room};
 ghost use Rattle.mm_records.specs.Constants.{constants_of, SameConstants};
 ghost use Rattle.mm_frames.specs.Texts.{text_in};
 ghost use Rattle.mm_nstable.specs.Nodes.{SameNames};
@@ -51,6 +52,7 @@ pub fn free_at(draft: &mut Draft, node: u32, at: Spot) -> Result<(), NoMemory>
         → IsTakenOut s (freed_shape (text_in own.hh.namespace) own.a (at.file, at.ofs) own.h (16 + length own.room) s) (at.file, at.ofs)) }
     ensures constants { OnOk result (SameConstants (ns_in draft.old.image) (ns_in draft.new.image)) }
     ensures names { OnOk result (SameNames (ns_in draft.old.image) (ns_in draft.new.image)) }
+    ensures room { OnOk result (room draft.new.image ≡ room draft.old.image) }
     ensures weight { DeclaresAtMost 912 draft.old draft.new }
 {
     let head = read_record(draft, at);

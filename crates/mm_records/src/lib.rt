@@ -11,7 +11,8 @@
 //! - `free` takes one pair out of the map; the block heads the list of its length. `write` and `write_inside` change one room; `write`
 //!   answers false exactly where the payload is too long, and then nothing changes. `payload` gives the whole room; `first` and `next`
 //!   go through the map in the order of the extents and of their chains.
-//! - Each of these says that the files stand again, and that the maps of all namespaces are as they were at every other place.
+//! - Each of these says that the files stand again, and that the maps of all namespaces are as they were at every other place. `alloc`
+//!   lowers the room of the files by at most four times the extent that it adds, the others leave it.
 //! - What a call declares is bounded by its clause `weight`: `write` and `write_inside` declare the bytes that they write alone, `free` 912,
 //!   `alloc` its payload and 2512.
 //!

@@ -6,6 +6,7 @@ ghost use Rattle.mm_nstable.specs.Nodes.{SameNames};
 ghost use Rattle.std.specs.Option.{option_map};
 ghost use Rattle.mm_links.specs.Links.{Place, first_of, next_in};
 ghost use Rattle.mm_extents.specs.Changes.{DeclaresAtMost, loc};
+ghost use Rattle.mm_extents.specs.Room.{room};
 ghost use Rattle.mm_records.specs.Constants.{SameConstants};
 ghost use Rattle.mm_records.specs.Shape.{Shape};
 ghost use Rattle.mm_records.specs.Stands.{Stands, IsNode, ns_in, walk};
@@ -78,13 +79,14 @@ impl RecordStore {
         )
     }
 
-    /// Takes a record out of the map. Its block heads the list of deleted blocks of its length.
+    /// Takes a record out of the map. Its block heads the list of deleted blocks of its length. The room of the files stays.
     pub fn free(&self, draft: &mut Draft, at: DiskLoc) -> Result<(), NoMemory>
         requires { (free : List ℕ) × ((s : Shape) × ((p : Place) × ((room : List ℕ) × HasRecord draft.old.image free s self.now.node p at room))) }
         ensures stands { OnOk result ((free : List ℕ) (s : Shape) (p : Place) (room : List ℕ) → HasRecord draft.old.image free s self.now.node p at room
             → (t : Shape) × (Stands draft.new.image free t × IsFreed s t (name_at draft.old.image self.now.node) p (16 + length room))) }
         ensures constants { OnOk result (SameConstants (ns_in draft.old.image) (ns_in draft.new.image)) }
         ensures names { OnOk result (SameNames (ns_in draft.old.image) (ns_in draft.new.image)) }
+        ensures room { OnOk result (room draft.new.image ≡ room draft.old.image) }
         ensures weight { DeclaresAtMost 912 draft.old draft.new }
     {
         free_at(draft, self.node, spot_of(at))
@@ -120,7 +122,8 @@ impl RecordStore {
         push_bytes(draft, spot.file, spot.ofs + 16, len, out)
     }
 
-    /// Writes a payload to the front of a record's room; false where the room is too short, and then nothing changes.
+    /// Writes a payload to the front of a record's room; false where the room is too short, and then nothing changes. The room of the
+    /// files stays.
     pub fn write(&self, draft: &mut Draft, at: DiskLoc, payload: &[u8]) -> Result<bool, NoMemory>
         requires { (free : List ℕ) × ((s : Shape) × ((p : Place) × ((room : List ℕ) × HasRecord draft.old.image free s self.now.node p at room))) }
         ensures fits { IfOk result (λ fits. (free : List ℕ) (s : Shape) (p : Place) (room : List ℕ) → HasRecord draft.old.image free s self.now.node p at room
@@ -129,6 +132,7 @@ impl RecordStore {
             → (t : Shape) × (Stands draft.new.image free t × IsRewritten s t p (overwritten 0 payload.now room))) }
         ensures refused { IfOk result (λ fits. fits ≡ false → draft.new ≡ draft.old) }
         ensures ns { OnOk result (ns_in draft.new.image ≡ ns_in draft.old.image) }
+        ensures room { OnOk result (room draft.new.image ≡ room draft.old.image) }
         ensures weight { DeclaresAtMost (length payload.now + 12) draft.old draft.new }
     {
         let spot = spot_of(at);
@@ -139,7 +143,7 @@ impl RecordStore {
         Ok(true)
     }
 
-    /// Writes some bytes inside a record's room, from its byte `from` on.
+    /// Writes some bytes inside a record's room, from its byte `from` on. The room of the files stays.
     pub fn write_inside(
         &self,
         draft: &mut Draft,
@@ -151,6 +155,7 @@ impl RecordStore {
         ensures stands { OnOk result ((free : List ℕ) (s : Shape) (p : Place) (room : List ℕ) → HasRecord draft.old.image free s self.now.node p at room → from + length bytes.now ≤ length room
             → (t : Shape) × (Stands draft.new.image free t × IsRewritten s t p (overwritten from bytes.now room))) }
         ensures ns { OnOk result (ns_in draft.new.image ≡ ns_in draft.old.image) }
+        ensures room { OnOk result (room draft.new.image ≡ room draft.old.image) }
         ensures weight { DeclaresAtMost (length bytes.now + 12) draft.old draft.new }
     {
         overwrite_room(draft, self.node, spot_of(at), from, bytes)

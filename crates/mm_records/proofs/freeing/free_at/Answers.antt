@@ -12,6 +12,7 @@ use Rattle.std.specs.FinMap.{insert}
 use Rattle.mm_records.proofs.ConstantLaws.{same_constants}
 use Rattle.mm_records.specs.Stands.{ns_in}
 use Rattle.mm_extents.proofs.Fields.{keeps_both}
+use Rattle.mm_extents.proofs.RoomFalls.{room_kept, room_files}
 use Rattle.mm_records.specs.Shape.{list_for}
 use Rattle.mm_records.proofs.Passing.{kept_by}
 use Rattle.mm_extents.proofs.FileLaws.{short_file}
@@ -135,6 +136,15 @@ returns-clause-names c =
     let fn : FitsSigned w32 c.read_record-head.result.next_ofs = search rules in
     let k = (keeps_both c.args.draft.now.image c.pass_back.«new».draft.image c.set_deleted.«new».draft.image (keeps_both c.args.draft.now.image c.pass_forward.«new».draft.image c.pass_back.«new».draft.image c.in_ok-pass_forward.ensures.kept c.in_ok-pass_back.ensures.kept) (kept_by c.pass_back.«new».draft c.set_deleted.«new».draft c.args.at.file c.args.at.ofs 16 c.in_ok-set_deleted.ensures.written (record { data_file = own_file c.args.draft.now.image c.requires.0 c.requires.1.0 c.args.node (c.args.at.file, c.args.at.ofs) c.requires.1.1; behind = own_behind c.args.draft.now.image c.requires.0 c.requires.1.0 c.args.node (c.args.at.file, c.args.at.ofs) c.requires.1.1; inside = deleted_asks c.args.draft.now.image c.requires.0 c.requires.1.0 c.args.node (c.args.at.file, c.args.at.ofs) c.requires.1.1 c.natural-ext.result (to_z w32 (of_z w32 c.read_record-head.result.prev_ofs)) (to_z w32 (of_z w32 c.read_record-head.result.next_ofs)) (reads_of c.args.draft.now.image c.requires.0 c.requires.1.0 c.args.node (c.args.at.file, c.args.at.ofs) c.requires.1.1 c.read_record-head.result c.natural-ext.result c.read_record-head.ensures fe fp fn c.natural-ext.ensures) c.pass_forward.«new».draft.image c.in_ok-pass_forward.ensures.heap c.pass_back.«new».draft.image c.in_ok-pass_back.ensures.heap }))) in
     on_ok_weaker c.put_node.result (λ _. subst (λ (ns : List ℕ). SameNames ns (ns_in c.put_node.«new».draft.image)) k.ns c.put_node.ensures.names) c.put_node.ensures.files
+
+pub returns-clause-room : goal.returns-clause-room
+returns-clause-room c =
+    let fe : FitsSigned w32 c.read_record-head.result.extent_ofs = search rules in
+    let fp : FitsSigned w32 c.read_record-head.result.prev_ofs = search rules in
+    let fn : FitsSigned w32 c.read_record-head.result.next_ofs = search rules in
+    let k = (keeps_both c.args.draft.now.image c.pass_back.«new».draft.image c.set_deleted.«new».draft.image (keeps_both c.args.draft.now.image c.pass_forward.«new».draft.image c.pass_back.«new».draft.image c.in_ok-pass_forward.ensures.kept c.in_ok-pass_back.ensures.kept) (kept_by c.pass_back.«new».draft c.set_deleted.«new».draft c.args.at.file c.args.at.ofs 16 c.in_ok-set_deleted.ensures.written (record { data_file = own_file c.args.draft.now.image c.requires.0 c.requires.1.0 c.args.node (c.args.at.file, c.args.at.ofs) c.requires.1.1; behind = own_behind c.args.draft.now.image c.requires.0 c.requires.1.0 c.args.node (c.args.at.file, c.args.at.ofs) c.requires.1.1; inside = deleted_asks c.args.draft.now.image c.requires.0 c.requires.1.0 c.args.node (c.args.at.file, c.args.at.ofs) c.requires.1.1 c.natural-ext.result (to_z w32 (of_z w32 c.read_record-head.result.prev_ofs)) (to_z w32 (of_z w32 c.read_record-head.result.next_ofs)) (reads_of c.args.draft.now.image c.requires.0 c.requires.1.0 c.args.node (c.args.at.file, c.args.at.ofs) c.requires.1.1 c.read_record-head.result c.natural-ext.result c.read_record-head.ensures fe fp fn c.natural-ext.ensures) c.pass_forward.«new».draft.image c.in_ok-pass_forward.ensures.heap c.pass_back.«new».draft.image c.in_ok-pass_back.ensures.heap }))) in
+    on_ok_weaker c.put_node.result (λ w. room_files c.set_deleted.«new».draft.image c.put_node.«new».draft.image w.0 w.1 ∙ room_kept c.args.draft.now.image c.set_deleted.«new».draft.image k)
+    (both_ok _ _ c.put_node.result c.put_node.ensures.lengths c.put_node.ensures.files)
 
 pub returns-clause-constants : goal.returns-clause-constants
 returns-clause-constants c =

@@ -1,5 +1,6 @@
 use Rattle.std.proofs.Common.{refl, arith}
 use Rattle.std.proofs.lemmas.Bool.{false≢true}
+use Rattle.mm_extents.proofs.RoomFalls.{room_kept}
 use Rattle.mm_records.proofs.Owning.{spot_asks}
 use Rattle.mm_records.proofs.StoreLaws.{own_at, long_room, rewritten_pair}
 use Rattle.mm_records.proofs.store.RecordStore.write.Goals as goal
@@ -34,3 +35,6 @@ returns-clause-stands c = λ free s p room r yes.
     let long = long_room c.args.draft.now.image free s c.args.self.now.node p (c.spot_of-spot.result.file, c.spot_of-spot.result.ofs) c.args.at room r c.spot_of-spot.ensures c.room_len.result (λ own. c.room_len.ensures.is free s own) in
     let fits = c.if-payload-room_len.false in
     rewritten_pair c.args.draft.now.image free s c.args.self.now.node p (c.spot_of-spot.result.file, c.spot_of-spot.result.ofs) c.args.at room r c.spot_of-spot.ensures c.overwrite_room.«new».draft.image 0 c.args.payload.now (omega (arith, long, fits)) (λ own le. c.in_ok-overwrite_room.ensures.stands free s own le)
+
+pub returns-clause-room : goal.returns-clause-room
+returns-clause-room c = room_kept c.args.draft.now.image c.overwrite_room.«new».draft.image c.in_ok-overwrite_room.ensures.kept

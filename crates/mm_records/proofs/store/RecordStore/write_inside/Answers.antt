@@ -1,5 +1,6 @@
 use Rattle.std.proofs.Common.{◌+◌, length}
 use Rattle.std.proofs.lemmas.Result.{on_ok_weaker}
+use Rattle.mm_extents.proofs.RoomFalls.{room_kept}
 use Rattle.mm_records.proofs.Owning.{spot_asks}
 use Rattle.mm_records.proofs.StoreLaws.{own_at, fits_own, rewritten_pair}
 use Rattle.mm_records.proofs.store.RecordStore.write_inside.Goals as goal
@@ -15,3 +16,6 @@ overwrite_room-requires c =
 pub returns-clause-stands : goal.returns-clause-stands
 returns-clause-stands c = on_ok_weaker c.overwrite_room.result (λ w free s p room r le.
     rewritten_pair c.args.draft.now.image free s c.args.self.now.node p (c.spot_of.result.file, c.spot_of.result.ofs) c.args.at room r c.spot_of.ensures c.overwrite_room.«new».draft.image c.args.from c.args.bytes.now le (λ own fits. w free s own fits)) c.overwrite_room.ensures.stands
+
+pub returns-clause-room : goal.returns-clause-room
+returns-clause-room c = on_ok_weaker c.overwrite_room.result (λ k. room_kept c.args.draft.now.image c.overwrite_room.«new».draft.image k) c.overwrite_room.ensures.kept
