@@ -29,7 +29,9 @@ use Rattle.mm_extents.specs.Tiling.{outline, ground, IsTiled}
 use Rattle.mm_extents.specs.Chains.{ext_next}
 use Rattle.mm_extents.specs.FreeExtents.{HasFree}
 use Rattle.mm_extents.specs.Dropping.{AreUsed, AreFreed}
+use Rattle.mm_extents.specs.Room.{room}
 use Rattle.mm_extents.proofs.FileLaws.{files_kept}
+use Rattle.mm_extents.proofs.RoomFalls.{room_files}
 use Rattle.mm_extents.proofs.Writes.{heap_same}
 use Rattle.mm_records.specs.Constants.{is_name}
 use Rattle.mm_records.specs.Shape.{Shape}
@@ -178,6 +180,9 @@ module _ (image : Image) (free : List ℕ) (s : Shape) (node : ℕ) (st : Stands
 
     files : (f : ℕ) → f < 8 → bytes_at d3.image f ≡ bytes_at d1.image f
     files f lt = other_files d2 d3 (628 * node) (zeros 628) w3 f lt ∙ ends_files image free st.free_chain.0 st.table st.free_chain.1.node d1 d2 ns1 ends w2 f lt
+
+    pub same_room : room d3.image ≡ room d1.image
+    same_room = room_files d1.image d3.image lens files
 
     table3 : table_of (ns_in d3.image) ≡ remove (insert (table_of (ns_in image)) free (record { node = st.free_chain.0.node; details = with_ends ends st.free_chain.0.details })) (name_at image node)
     table3 = t3 ∙ (λ i. remove (table_of (ns_in d2.image)) (name2 i)) ∙ ap (λ x. remove x (name_at image node)) (t2 ∙ ap (λ (ns : List ℕ). insert (table_of ns) free (record { node = st.free_chain.0.node; details = with_ends ends st.free_chain.0.details })) ns1)

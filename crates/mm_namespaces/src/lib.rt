@@ -5,7 +5,7 @@
 //! - `add` puts a namespace without extents into a free node. The files stand as they stood, with the same shape: no record, extent or
 //!   list of any other namespace changes.
 //! - `drop_namespace` makes the extents of a namespace the last of the free chain and frees its node (`IsDropped`, specs/Dropped). The
-//!   records, chains and lists of all other namespaces stay.
+//!   records, chains and lists of all other namespaces stay. Neither changes the room of the files.
 //!
 //! After an error of `set_up` or `drop_namespace` the draft is to be dropped; after one of `add` all is as it was. How a name is made, and what is in a
 //! namespace, is for the crates above.

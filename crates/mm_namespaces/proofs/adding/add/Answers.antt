@@ -1,3 +1,4 @@
+use Rattle.mm_extents.proofs.RoomFalls.{room_files}
 use Rattle.mm_records.specs.Stands.{ns_in}
 use Rattle.mm_namespaces.proofs.Adds.{stands_added, free_other, named_at, put_there, is_node_added}
 use Rattle.mm_namespaces.proofs.NodeBytes.{ok_both, holds_of, both_on}
@@ -19,3 +20,6 @@ returns-clause-node c = ok_both c.put_fresh.result c.put_fresh.ensures.put c.put
 pub returns-clause-named : goal.returns-clause-named
 returns-clause-named c = holds_of c.put_fresh.result c.put_fresh.ensures.put (λ node p.
     named_at (ns_in c.put_fresh.«new».draft.image) c.args.name.now node p.0 c.put_fresh.ensures.kept (put_there (ns_in c.args.draft.now.image) (ns_in c.put_fresh.«new».draft.image) c.args.name.now node p.0 p.1.1))
+
+pub returns-clause-room : goal.returns-clause-room
+returns-clause-room c = both_on c.put_fresh.result c.put_fresh.ensures.put c.put_fresh.ensures.lengths c.put_fresh.ensures.files (λ node p lengths files. room_files c.args.draft.now.image c.put_fresh.«new».draft.image lengths files)

@@ -3,10 +3,11 @@ use Rattle.std.proofs.lemmas.Result.{on_ok_weaker}
 use Rattle.mm_nstable.specs.Nodes.{is_used, IsTable}
 use Rattle.mm_nstable.specs.FreeChain.{HasFreeChain}
 use Rattle.mm_extents.proofs.FreeWalks.{both_ok}
+use Rattle.mm_extents.proofs.RoomFalls.{room_kept}
 use Rattle.mm_records.specs.Stands.{ns_in}
 use Rattle.mm_records.specs.Map.{name_at}
 use Rattle.mm_records.proofs.FreeSteps.{used_there}
-use Rattle.mm_namespaces.proofs.DropCalls.{asks, all_dropped, own_gone, others_stay}
+use Rattle.mm_namespaces.proofs.DropCalls.{asks, all_dropped, own_gone, others_stay, same_room}
 use Rattle.mm_namespaces.proofs.dropping.drop_namespace.Goals as goal
 
 pub free_ends-ends-requires-clause-table : goal.free_ends-ends-requires-clause-table
@@ -71,6 +72,19 @@ returns-clause-others c = on_ok_weaker c.remove.result (λ x.
     let h = subst (λ (ns : List ℕ). HasFreeChain ns c.args.free.now st.free_chain.0) (sym c.in_ok-free_extents.ensures.kept.ns) st.free_chain.1.node in
     others_stay c.args.draft.now.image c.args.free.now s c.args.node st n c.free_extents.«new».draft c.put_free_ends.«new».draft c.remove.«new».draft c.free_extents.«new».free m c.in_ok-free_extents.ensures.kept.ns
     (c.in_ok-put_free_ends.ensures.written c.args.free.now st.free_chain.0 h) (c.in_ok-put_free_ends.ensures.table c.args.free.now st.free_chain.0 h) c.put_free_ends.ensures.names x.0 x.1 c.remove.ensures.kept)
+    (both_ok _ _ c.remove.result c.remove.ensures.written c.remove.ensures.table)
+
+pub returns-clause-room : goal.returns-clause-room
+returns-clause-room c = on_ok_weaker c.remove.result (λ x.
+    let s = c.requires.0 in
+    let st = c.requires.1.0 in
+    let n = c.requires.1.1 in
+    let a = asks c.args.draft.now.image c.args.free.now s c.args.node st n c.details.result c.free_ends-ends.result (c.details.ensures.table st.table n.used) c.free_ends-ends.ensures in
+    let m = c.in_ok-free_extents.ensures.ok s.heap (s.extents c.args.free.now) (s.extents (name_at c.args.draft.now.image c.args.node)) a.0 a.1 in
+    let h = subst (λ (ns : List ℕ). HasFreeChain ns c.args.free.now st.free_chain.0) (sym c.in_ok-free_extents.ensures.kept.ns) st.free_chain.1.node in
+    same_room c.args.draft.now.image c.args.free.now s c.args.node st n c.free_extents.«new».draft c.put_free_ends.«new».draft c.remove.«new».draft c.free_extents.«new».free m c.in_ok-free_extents.ensures.kept.ns
+    (c.in_ok-put_free_ends.ensures.written c.args.free.now st.free_chain.0 h) (c.in_ok-put_free_ends.ensures.table c.args.free.now st.free_chain.0 h) c.put_free_ends.ensures.names x.0 x.1 c.remove.ensures.kept
+    ∙ room_kept c.args.draft.now.image c.free_extents.«new».draft.image c.in_ok-free_extents.ensures.kept)
     (both_ok _ _ c.remove.result c.remove.ensures.written c.remove.ensures.table)
 
 pub returns-clause-weight : goal.returns-clause-weight
