@@ -1,4 +1,5 @@
 pub mod Loops
+pub mod Behind
 pub mod Core
 pub mod Leaves
 pub mod Digits

@@ -2,3 +2,4 @@ pub mod Grammar
 pub mod Written
 pub mod Reading
 pub mod Answer
+pub mod Putting

@@ -21,6 +21,7 @@ mod kind;
 mod laws;
 mod numbers;
 mod objects;
+mod putting;
 mod reading;
 mod stop;
 mod strings;

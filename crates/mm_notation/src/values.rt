@@ -4,12 +4,13 @@ ghost use Rattle.std.specs.Prelude.{◌≡◌, ◌<◌, ◌≤◌, ◌+◌, leng
 ghost use Rattle.mm_bson.specs.Tree.{tree_depth};
 ghost use Rattle.mm_bson.specs.View.{tree};
 ghost use Rattle.mm_notation.specs.Reading.{Gives, key_at, number as number_of, opening_at, call_at, timestamp_at, pairs_at, object_id_at, hex_data_at, kind_at};
+ghost use Rattle.mm_notation.specs.Putting.{leaf_at};
 
 use crate::bytes::{after_byte, after_mark, after_word, skip};
 use crate::kind::{Kind, from_byte};
 use crate::numbers::{hex_pair, integer, unsigned};
 use crate::stop::Stop;
-use crate::strings::hex;
+use crate::strings::{hex, string};
 use crate::writing::is_small;
 use mm_bson::{Blob, Value};
 use std::alloc::Global;
@@ -29,7 +30,7 @@ pub(crate) fn kind(text: &[u8]) -> Result<Kind, Stop<'_>>
 
 /// `MinKey` or `MaxKey`, of which `M` is read.
 #[tactic(auto, unfolding(crate::specs::Reading::key_at))]
-pub(crate) fn key(text: &[u8]) -> Result<(Value, &[u8]), Stop<'_>>
+fn key(text: &[u8]) -> Result<(Value, &[u8]), Stop<'_>>
     ensures gives { Gives (λ x. (tree x.0, x.1.now)) result (key_at text.now) }
     ensures flat { IfOk result (λ x. tree_depth (tree x.0) ≡ 0) }
     ensures left { IfOk result (λ x. length x.1.now ≤ length text.now) }
@@ -42,7 +43,7 @@ pub(crate) fn key(text: &[u8]) -> Result<(Value, &[u8]), Stop<'_>>
 }
 
 /// An int32 where the number is in its range.
-pub(crate) fn number(number: i64) -> Value
+fn number(number: i64) -> Value
     ensures value { tree result ≡ number_of number }
     ensures flat { tree_depth (tree result) ≡ 0 }
 {
@@ -66,7 +67,7 @@ fn after_opening<'a>(word: &[u8], text: &'a [u8]) -> Result<&'a [u8], Stop<'a>>
 
 /// A word with an integer in parentheses.
 #[tactic(auto, unfolding(crate::specs::Reading::call_at))]
-pub(crate) fn call<'a>(word: &[u8], text: &'a [u8]) -> Result<(i64, &'a [u8]), Stop<'a>>
+fn call<'a>(word: &[u8], text: &'a [u8]) -> Result<(i64, &'a [u8]), Stop<'a>>
     ensures gives { Gives (λ x. (x.0, x.1.now)) result (call_at word.now text.now) }
     ensures left { IfOk result (λ x. length x.1.now < length text.now) }
 {
@@ -77,7 +78,7 @@ pub(crate) fn call<'a>(word: &[u8], text: &'a [u8]) -> Result<(i64, &'a [u8]), S
 }
 
 #[tactic(auto, unfolding(crate::specs::Reading::timestamp_at))]
-pub(crate) fn timestamp(text: &[u8]) -> Result<(Value, &[u8]), Stop<'_>>
+fn timestamp(text: &[u8]) -> Result<(Value, &[u8]), Stop<'_>>
     ensures gives { Gives (λ x. (tree x.0, x.1.now)) result (timestamp_at text.now) }
     ensures flat { IfOk result (λ x. tree_depth (tree x.0) ≡ 0) }
     ensures left { IfOk result (λ x. length x.1.now < length text.now) }
@@ -110,7 +111,7 @@ fn twelve(text: &[u8]) -> Result<([u8; 12], &[u8]), Stop<'_>>
 }
 
 #[tactic(auto, unfolding(crate::specs::Reading::object_id_at))]
-pub(crate) fn object_id(text: &[u8]) -> Result<(Value, &[u8]), Stop<'_>>
+fn object_id(text: &[u8]) -> Result<(Value, &[u8]), Stop<'_>>
     ensures gives { Gives (λ x. (tree x.0, x.1.now)) result (object_id_at text.now) }
     ensures flat { IfOk result (λ x. tree_depth (tree x.0) ≡ 0) }
     ensures left { IfOk result (λ x. length x.1.now < length text.now) }
@@ -124,7 +125,7 @@ pub(crate) fn object_id(text: &[u8]) -> Result<(Value, &[u8]), Stop<'_>>
 }
 
 #[tactic(auto, unfolding(crate::specs::Reading::hex_data_at))]
-pub(crate) fn hex_data(alloc: Global, text: &[u8]) -> Result<(Value, &[u8]), Stop<'_>>
+fn hex_data(alloc: Global, text: &[u8]) -> Result<(Value, &[u8]), Stop<'_>>
     ensures gives { Gives (λ x. (tree x.0, x.1.now)) result (hex_data_at text.now) }
     ensures flat { IfOk result (λ x. tree_depth (tree x.0) ≡ 0) }
     ensures left { IfOk result (λ x. length x.1.now < length text.now) }
@@ -139,4 +140,38 @@ pub(crate) fn hex_data(alloc: Global, text: &[u8]) -> Result<(Value, &[u8]), Sto
         bytes: Blob::from_slice(alloc, bytes.as_slice())?,
     };
     Ok((value, rest))
+}
+
+/// A value of a kind that holds no other. No object and no array is read.
+pub(crate) fn leaf(alloc: Global, kind: Kind, text: &[u8]) -> Result<(Value, &[u8]), Stop<'_>>
+    ensures gives { Gives (λ x. (tree x.0, x.1.now)) result (leaf_at kind text.now) }
+    ensures flat { IfOk result (λ x. tree_depth (tree x.0) ≡ 0) }
+    ensures left { IfOk result (λ x. length x.1.now < length text.now) }
+{
+    match kind {
+        Kind::Object | Kind::Array => Err(Stop::At(text)),
+        Kind::String => {
+            let (text, rest) = string(alloc, false, text)?;
+            Ok((Value::String(text), rest))
+        }
+        Kind::Integer => {
+            let (found, rest) = integer(text)?;
+            Ok((number(found), rest))
+        }
+        Kind::True => Ok((Value::Boolean(true), after_word(b"true", text)?)),
+        Kind::False => Ok((Value::Boolean(false), after_word(b"false", text)?)),
+        Kind::Null => Ok((Value::Null, after_word(b"null", text)?)),
+        Kind::Key => key(after_byte(b'M', text)?),
+        Kind::Long => {
+            let (found, rest) = call(b"NumberLong", text)?;
+            Ok((Value::Int64(found), rest))
+        }
+        Kind::Date => {
+            let (found, rest) = call(b"Date", text)?;
+            Ok((Value::Date(found), rest))
+        }
+        Kind::Timestamp => timestamp(text),
+        Kind::ObjectId => object_id(text),
+        Kind::HexData => hex_data(alloc, text),
+    }
 }

@@ -12,7 +12,8 @@ use itoa::Buffer;
 use mm_bson::{Doc, Element, Value, ValueList};
 use std::alloc::AllocError;
 
-fn put(out: &mut Vec<u8>, bytes: &[u8]) -> Result<(), AllocError>
+/// Puts bytes behind others, or leaves those as they were.
+pub(crate) fn put(out: &mut Vec<u8>, bytes: &[u8]) -> Result<(), AllocError>
     ensures ok { OnOk result (out.new.items ≡ out.old.items ++ bytes.now) }
     ensures err { OnErr result (out.new.items ≡ out.old.items) }
 {
