@@ -26,3 +26,6 @@ pub mod CheckLaws
 pub mod FoundRecords
 pub mod FileLoops
 pub mod CodeTests
+pub mod Results
+pub mod Lows
+pub mod PhaseLoops

@@ -26,6 +26,11 @@ abbrev pub nat_of : ℤ → ℕ
 nat_of (pos n) = n
 nat_of (negsuc n) = 0
 
+-- the same where it isn't negative
+abbrev pub nat_in : ℤ → Option ℕ
+nat_in (pos n) = Some n
+nat_in (negsuc n) = None
+
 -- how long the extent at a place is, as its header says
 abbrev pub ext_size : Image → Place → ℕ
 ext_size image p = nat_of (ext_at image p).len

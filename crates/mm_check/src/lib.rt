@@ -8,27 +8,33 @@
 //!   (`ListLaws`, `ListsBack`), the blocks of an extent (`BlockLaws`, `BlocksBack`) and the constant fields of details (`CountLaws`). That
 //!   extents tile each file is said from the check to what stands (`AreaLaws`, `Tiled`).
 //! - What the phases up to `chain` find meets the premises of their laws (`FoundExtents`, `FoundAreas`, `FoundRecords`).
-//! - `wrong_file` answers the first file that is missing or wrong; `first_lost` the first extent that no chain has; `live_chains` follows
-//!   the live chains of extents in their order: all their records exactly where each chain is whole, else the one place that is first
-//!   wrong. How the extents of a file, those of a node and a list of deleted blocks are read is proved to be as their definitions say
-//!   (`FileExtents`, `NodeExtents`, `Deleted`).
+//! - `wrong_file` answers the first file that is missing or wrong; `first_lost` the first extent that no chain has. Four phases follow
+//!   chains or blocks, each exactly: `file_extents` the extents of each file, `node_extents` the chains of the nodes, `live_records` the
+//!   live records of extents, and `first_gap_of` the blocks of extents by place. Each answers all places exactly where its chains are
+//!   whole, else the one place that is first wrong. How a list of deleted blocks is read is proved to be as its definition says
+//!   (`Deleted`).
 //!
 //! The laws of single phases aren't joined to one law on all of them yet, and the phases aren't run in a row. Each walk ends on any bytes.
 //! Want of memory has its own answer.
 #![tactic(auto)]
 
+mod chains;
 mod extents;
 mod files;
 mod frames;
+mod gaps;
 mod lists;
 mod lost;
 mod nodes;
 mod numbers;
+mod owners;
 mod phases;
 mod places;
 mod records;
 
 pub use files::wrong_file;
+pub use gaps::first_gap_of;
 pub use lost::first_lost;
-pub use phases::live_chains;
+pub use owners::{Owned, extents_of, without};
+pub use phases::{file_extents, live_chains, live_records, node_extents};
 pub use records::Records;

@@ -3,7 +3,7 @@
 ghost use Rattle.std.specs.Prelude.{◌≡◌, ◌+◌, ◌≤◌, ◌<◌, ◌==◌, ◌&&◌, nat_le, ℕ, pos, length};
 ghost use Rattle.mm_ranges.specs.Overlay.{bytes_at};
 ghost use Rattle.mm_check.specs.RecordChain.{is_pos, is_long, is_minus_one, names_ofs, names_place, to_offset, ofs_link, place_link};
-ghost use Rattle.mm_check.specs.ExtentChain.{nat_of, is_pages, leads_on};
+ghost use Rattle.mm_check.specs.ExtentChain.{nat_of, nat_in, is_pages, leads_on};
 ghost use Rattle.mm_records.specs.Shape.{list_for};
 
 use mm_base::DiskLoc;
@@ -102,6 +102,13 @@ pub(crate) fn size(z: i32) -> u32
     ensures { result ≡ nat_of z }
 {
     if z < 0 { 0 } else { z as u32 }
+}
+
+// The number where it isn't negative.
+pub(crate) fn offset(z: i32) -> Option<u32>
+    ensures { result ≡ nat_in z }
+{
+    if z < 0 { None } else { Some(z as u32) }
 }
 
 // The length is of whole pages, at least one.

@@ -1,6 +1,6 @@
 //! Places that were seen.
 
-ghost use Rattle.std.specs.Prelude.{◌≡◌, List, IfOk, map};
+ghost use Rattle.std.specs.Prelude.{◌≡◌, ◌++◌, ◌∷◌, List, [], IfOk, OnOk, map};
 ghost use Rattle.mm_links.specs.Links.{Place, has};
 ghost use Rattle.mm_walk.specs.Walk.{Knows};
 ghost use Rattle.mm_check.specs.Findings.{joined};
@@ -25,4 +25,23 @@ pub(crate) fn join(alloc: Global, lists: &[Vec<(u32, u32)>]) -> Result<Vec<(u32,
         all.extend_from_slice(places)?;
     }
     Ok(all)
+}
+
+// Adds a place to those that the set has.
+fn add(set: &mut BTreeSet<u64>, file: u32, ofs: u32) -> Result<(), AllocError>
+    ensures { OnOk result ((seen : List Place) → Knows set.old seen → Knows set.new (seen ++ (file, ofs) ∷ [])) }
+{
+    set.insert(key((file, ofs)))?;
+    Ok(())
+}
+
+// The set of some places.
+pub(crate) fn known(alloc: Global, places: &[(u32, u32)]) -> Result<BTreeSet<u64>, AllocError>
+    ensures { IfOk result (λ set. Knows set places.now) }
+{
+    let mut set = BTreeSet::new(alloc);
+    for i in 0..places.len() {
+        add(&mut set, places[i].0, places[i].1)?;
+    }
+    Ok(set)
 }
