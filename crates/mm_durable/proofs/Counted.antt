@@ -1,8 +1,9 @@
 -- What a flush writes fits a number of 64 bits, and is counted range by range.
-use Rattle.std.proofs.Common.{◌≡◌, ℕ, zero, suc, ◌+◌, ◌-◌, ◌*◌, ◌^◌, ◌<◌, ◌≤◌, Bool, true, false, cond, List, [], ◌∷◌, ◌++◌, length, get_or, take, drop, set, max, map, sum_by, refl, sym, ◌∙◌, ap, subst, arith}
+use Rattle.std.proofs.Common.{◌≡◌, ℕ, zero, suc, ◌+◌, ◌-◌, ◌*◌, ◌^◌, ◌<◌, ◌≤◌, Bool, true, false, cond, List, [], ◌∷◌, ◌++◌, length, get_or, take, drop, set, max, map, sum_by, Option, refl, sym, ◌∙◌, ap, subst, arith}
 use Rattle.std.specs.Ordering.{eq_by_cmp}
 use Rattle.std.proofs.lemmas.List.{length-append, length-drop, take_all, get_or-set_same, get_or-set_other}
 use Rattle.std.proofs.lemmas.List.Sums.{sum_by-cons, sum_by_more, sum_by_more_le}
+use Rattle.mm_outside.specs.Told.{Told}
 use Rattle.mm_outside.specs.Image.{name_cmp}
 use Rattle.mm_frames.specs.EntryHead.{entry_head_bytes}
 use Rattle.mm_ranges.specs.declared.part.Piece.{Piece}
@@ -11,9 +12,13 @@ use Rattle.mm_section.specs.declared.section.Section.{Section}
 use Rattle.mm_section.specs.Spells.{Entry, entry_bytes, entries_bytes, make_of, put_of, part_entries, parts_entries, parts_bytes}
 use Rattle.mm_crash.specs.Journal.{AllCan}
 use Rattle.mm_journal.proofs.Real.{the_format}
+use Rattle.mm_outside.specs.Ask.{Makes}
+use Rattle.mm_jfiles.proofs.Asking.{made_none}
+use Rattle.mm_crash.specs.Asks.{lay_asks}
 use Rattle.mm_durable.specs.Log.{IsSound, HasFlushed}
 use Rattle.mm_durable.specs.declared.log.Log.{Log}
-use Rattle.mm_durable.specs.Flushed.{range_bytes, own_bytes, own_bytes_in, flushed_bytes}
+use Rattle.mm_durable.specs.Own.{own_of_sections}
+use Rattle.mm_durable.specs.Flushed.{range_bytes, own_bytes, own_bytes_in, flushed_bytes, flush_asks}
 use Rattle.mm_durable.proofs.Logs.{spellable}
 use Rattle.mm_durable.proofs.Syncs.{can_take, can_drop}
 
@@ -87,6 +92,12 @@ pub none_left : (name : List ℕ) (sections : List Section) (from dropped upto l
 none_left name sections from dropped upto last le =
     let none : upto - last - dropped - (from - dropped) ≡ 0 = omega (arith, le) in
     sym (ap (λ (n : ℕ). flushed_bytes name (take n (drop (from - dropped) sections))) none)
+
+pub asks_none : (log : Log) (db upto : ℕ) → upto ≤ log.last + get_or log.flushed.items db 0 → (before : Option Told) → Makes (flush_asks log db upto) before before
+asks_none log db upto le before =
+    let from = get_or log.flushed.items db 0 in
+    let none : upto - log.last - log.dropped - (from - log.dropped) ≡ 0 = omega (arith, le) in
+    subst (λ (n : ℕ). Makes (lay_asks (own_of_sections (get_or log.names.items db []) (take n (drop (from - log.dropped) log.sections.items)))) before before) (sym none) (made_none before)
 
 pub slice_can : (log : Log) → IsSound log → (k from : ℕ) (kept : List Section) → kept ≡ log.sections.items → AllCan the_format (take (k - log.dropped - (from - log.dropped)) (drop (from - log.dropped) kept))
 slice_can log sound k from kept is = can_take (k - log.dropped - (from - log.dropped)) (drop (from - log.dropped) kept) (can_drop (from - log.dropped) kept (subst (AllCan the_format) (sym is) sound.can))

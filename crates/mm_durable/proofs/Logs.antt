@@ -1,5 +1,5 @@
 -- The oldest pending section is written and synced.
-use Rattle.std.proofs.Common.{◌≡◌, ℕ, zero, suc, ◌+◌, ◌-◌, ◌^◌, ◌<◌, Bool, true, false, cond, List, [], ◌∷◌, ◌++◌, length, take, drop, get_or, Option, Some, refl, sym, ◌∙◌, ap, subst, arith, add-one, drop-cons}
+use Rattle.std.proofs.Common.{◌≡◌, ℕ, zero, suc, ◌+◌, ◌-◌, ◌^◌, ◌<◌, ◌≤◌, Bool, true, false, cond, List, [], ◌∷◌, ◌++◌, length, take, drop, get_or, Option, Some, refl, sym, ◌∙◌, ap, subst, arith, add-one, drop-cons}
 use Rattle.std.proofs.lemmas.Bool.Decides.{nat_tests}
 use Rattle.std.proofs.lemmas.List.{length-append, length-take-le, drop-drop}
 use Rattle.std.specs.Prelude.{nat_le, ◌==◌, ◌||◌}
@@ -9,7 +9,7 @@ use Rattle.mm_section.specs.declared.section.Section.{Section}
 use Rattle.mm_section.specs.Spells.{IsSpellable, section_bytes}
 use Rattle.mm_jfiles.specs.Names.{journal_name}
 use Rattle.mm_jfiles.specs.Files.{Files, last_number, ready, is_full, begun, written, append_asks, sync_ask}
-use Rattle.mm_jfiles.proofs.Asking.{some_then, some_first, made_then}
+use Rattle.mm_jfiles.proofs.Asking.{some_then, some_first, made_none, made_then}
 use Rattle.mm_crash.specs.Journal.{AllCan}
 use Rattle.mm_crash.specs.Story.{Story}
 use Rattle.mm_journal.specs.Tracks.{Tracks, log_asks}
@@ -17,7 +17,7 @@ use Rattle.mm_journal.proofs.Real.{the_format, the_names, speaks, can_is}
 use Rattle.mm_prefix.specs.Prefix.{Numbers}
 use Rattle.mm_prefix.proofs.Logging.{log_safe, log_rest}
 use Rattle.mm_durable.specs.Names.{db_of}
-use Rattle.mm_durable.specs.Log.{IsSound, IsKept, Keeps, Leaving, synced, sealed, has_pending}
+use Rattle.mm_durable.specs.Log.{IsSound, IsKept, Keeps, Leaving, synced, sealed, pending_sections, has_pending, oldest_asks, with_oldest}
 use Rattle.mm_durable.specs.declared.log.Log.{Log}
 use Rattle.mm_durable.proofs.Steps.{AreSafe, Stands, SameRun, leaving, keeps_one}
 
@@ -41,6 +41,20 @@ pub pending_inside : (old : Log) → IsSound old → has_pending old ≡ true �
 pending_inside old sound pending =
     let lt : synced old < sealed old = grind (arith, nat_tests) in
     omega (arith, lt, sound.kept, sound.floor_synced)
+
+-- without a pending section nothing is asked
+pub none_pending : (old : Log) → IsSound old → sealed old ≤ synced old → pending_sections old ≡ []
+none_pending old sound le =
+    all_dropped (synced old - old.dropped) old.sections.items (omega (arith, le, sound.kept, sound.floor_synced))
+  where
+    all_dropped : (n : ℕ) (xs : List Section) → length xs ≤ n → drop n xs ≡ []
+    all_dropped zero [] le = refl
+    all_dropped zero (x ∷ xs) le = absurd (omega (arith, le))
+    all_dropped (suc n) [] le = refl
+    all_dropped (suc n) (x ∷ xs) le = all_dropped n xs (omega (arith, le))
+
+pub asks_nothing : (old : Log) → pending_sections old ≡ [] → (before : Option Told) → Makes (oldest_asks old.journal (pending_sections old)) before before
+asks_nothing old none before = subst (λ (l : List Section). Makes (oldest_asks old.journal l) before before) (sym none) (made_none before)
 
 -- ---- the last file stays the last
 
@@ -77,12 +91,14 @@ module _ (old : Log) (sound : IsSound old) (pending : has_pending old ≡ true) 
   room : Rattle.mm_jfiles.specs.Files.next_number old.journal < 2 ^ 32
   room = omega (arith, sound.begun, sound.there, sound.few)
 
+  oldest : pending_sections old ≡ x ∷ others
+  oldest = rw add-one (drop-cons old.sections.items place x inside) ∙ ap (λ (y : Section). y ∷ others) (sym is)
+
   -- it is the next of the run
   comes_next : (t u : Told) (story : Story) (history : ℕ → Numbers) (k : IsKept t story history old u) → drop k.counts.s story.sections ≡ x ∷ others
   comes_next t u story history k =
       let along : old.dropped + place ≡ k.counts.s = omega (arith, k.durable.each, sound.kept, sound.floor_synced) in
-      let here : drop place old.sections.items ≡ x ∷ others = rw add-one (drop-cons old.sections.items place x inside) ∙ ap (λ (y : Section). y ∷ others) (sym is) in
-      sym (ap (λ n. drop n story.sections) along) ∙ sym (drop-drop place old.dropped story.sections) ∙ ap (drop place) (sym k.sections) ∙ here
+      sym (ap (λ n. drop n story.sections) along) ∙ sym (drop-drop place old.dropped story.sections) ∙ ap (drop place) (sym k.sections) ∙ oldest
 
   pub logging_safe : AreSafe old (log_asks old.journal bytes)
   logging_safe t u story history k = log_safe the_format the_names (db_of old.names.items) speaks story k.durable.sound x others old.journal k.counts u k.tracks k.durable.rest (comes_next t u story history k) room bytes its_spelling
@@ -90,6 +106,14 @@ module _ (old : Log) (sound : IsSound old) (pending : has_pending old ≡ true) 
   -- the calls, with the sync of the file as it is after the write
   pub logs_as : (f : Files) → f ≡ written x.number (length bytes) (ready old.journal) → append_asks old.journal bytes ++ sync_ask f ∷ [] ≡ log_asks old.journal bytes
   logs_as f e = ap (λ (g : Files). append_asks old.journal bytes ++ sync_ask g ∷ []) e ∙ ap (λ n. append_asks old.journal bytes ++ record { name = journal_name n; change = Syncs } ∷ []) (last_stays old.journal x.number (length bytes))
+
+  pub files_are : (f g : Files) → g ≡ f → f ≡ written x.number (length bytes) (ready old.journal) → g ≡ with_oldest old.journal (pending_sections old)
+  files_are f g same e = same ∙ e ∙ ap (λ (b : List ℕ). written x.number (length b) (ready old.journal)) spelled ∙ ap (with_oldest old.journal) (sym oldest)
+
+  pub asks_are : (f : Files) → f ≡ written x.number (length bytes) (ready old.journal) → (before mid after : Option Told) → Makes (append_asks old.journal bytes) before mid → Makes (sync_ask f ∷ []) mid after → Makes (oldest_asks old.journal (pending_sections old)) before after
+  asks_are f e before mid after made sync =
+      let said : append_asks old.journal bytes ++ sync_ask f ∷ [] ≡ oldest_asks old.journal (pending_sections old) = logs_as f e ∙ ap (log_asks old.journal) spelled ∙ ap (oldest_asks old.journal) (sym oldest) in
+      subst (λ (l : List Ask). Makes l before after) said (made_then (append_asks old.journal bytes) (sync_ask f ∷ []) before mid after made sync)
 
   pub appending_left : (before after : Option Told) → MakesSome (append_asks old.journal bytes) before after → Leaving old before after
   appending_left before after some = leaving old before after (log_asks old.journal bytes) (some_first (append_asks old.journal bytes) _ before after some) logging_safe

@@ -1,5 +1,7 @@
 -- The floor's number is written into the lsn file.
-use Rattle.std.proofs.Common.{◌≡◌, ℕ, ◌+◌, List, [], Option, refl, sym, ◌∙◌, ap, subst, arith}
+use Rattle.std.proofs.Common.{◌≡◌, ℕ, ◌+◌, ◌<◌, ◌≤◌, Bool, true, false, cond, List, [], Option, refl, sym, ◌∙◌, ap, subst, arith}
+use Rattle.std.specs.Prelude.{nat_lt}
+use Rattle.std.proofs.lemmas.Bool.Decides.{nat_tests}
 use Rattle.mm_outside.specs.Told.{Told}
 use Rattle.mm_outside.specs.Ask.{Ask, asked, Makes}
 use Rattle.mm_outside.proofs.Cuts.{Safe}
@@ -12,9 +14,19 @@ use Rattle.mm_crash.proofs.Log.{mark_safe, mark_rest}
 use Rattle.mm_journal.proofs.Real.{the_format, the_names, marks_so}
 use Rattle.mm_prefix.specs.Prefix.{Numbers}
 use Rattle.mm_durable.specs.Names.{db_of}
-use Rattle.mm_durable.specs.Log.{IsSound, IsKept, Keeps}
+use Rattle.mm_durable.specs.Log.{IsSound, IsKept, Keeps, floor_asks}
 use Rattle.mm_durable.specs.declared.log.Log.{Log}
 use Rattle.mm_durable.proofs.Steps.{Good, AreSafe, keeps}
+
+pub marks_floor : (log : Log) → log.mark < log.floor → (before after : Option Told) → Makes (mark_asks (log.last + log.floor)) before after → Makes (floor_asks log) before after
+marks_floor log lt before after made =
+    let test : nat_lt log.mark log.floor ≡ true = grind (arith, nat_tests) in
+    subst (λ (b : Bool). Makes (cond b (mark_asks (log.last + log.floor)) []) before after) (sym test) made
+
+pub marks_nothing : (log : Log) → log.floor ≤ log.mark → (before : Option Told) → Makes (floor_asks log) before before
+marks_nothing log le before =
+    let test : nat_lt log.mark log.floor ≡ false = grind (arith, nat_tests) in
+    subst (λ (b : Bool). Makes (cond b (mark_asks (log.last + log.floor)) []) before before) (sym test) (made_none before)
 
 module _ (old : Log) (sound : IsSound old) where
   module _ (t u : Told) (story : Story) (history : ℕ → Numbers) (k : IsKept t story history old u) where

@@ -1,11 +1,14 @@
 -- How many bytes a flush writes.
-use Rattle.std.specs.Prelude.{ℕ, ◌-◌, if◌then◌else◌, List, length, get_or, slice_range}
+use Rattle.std.specs.Prelude.{ℕ, ◌-◌, if◌then◌else◌, List, [], length, get_or, slice_range}
 use Rattle.std.specs.List.{sum_by}
 use Rattle.std.specs.Ordering.{eq_by_cmp}
 use Rattle.mm_outside.specs.Image.{name_cmp}
 use Rattle.mm_ranges.specs.declared.part.Piece.{Piece}
 use Rattle.mm_ranges.specs.declared.part.Part.{Part}
 use Rattle.mm_section.specs.declared.section.Section.{Section}
+use Rattle.mm_outside.specs.Ask.{Ask}
+use Rattle.mm_crash.specs.Asks.{lay_asks}
+use Rattle.mm_durable.specs.Own.{own_of_sections}
 use Rattle.mm_durable.specs.declared.log.Log.{Log}
 
 -- those of ranges
@@ -26,3 +29,7 @@ flushed_bytes name sections = sum_by (own_bytes_in name) sections
 -- the sections up to this number that aren't flushed in the database
 abbrev pub unflushed : Log → ℕ → ℕ → List Section
 unflushed log db upto = slice_range log.sections.items (get_or log.flushed.items db 0 - log.dropped) (upto - log.last - log.dropped)
+
+-- what is asked of the disk to flush them: what they made and wrote there, once each
+abbrev pub flush_asks : Log → ℕ → ℕ → List Ask
+flush_asks log db upto = lay_asks (own_of_sections (get_or log.names.items db []) (unflushed log db upto))

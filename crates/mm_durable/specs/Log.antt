@@ -1,13 +1,16 @@
 -- What the log is at all times, and the fact that its calls keep.
-use Rattle.std.specs.Prelude.{List, [], ◌∷◌, ◌++◌, ◌≡◌, ℕ, ◌+◌, ◌-◌, ◌<◌, ◌≤◌, ◌^◌, Bool, ◌&&◌, nat_lt, ◌==◌, length, drop, get_or, max, Option, Some, ◌⊎◌, vec_capacity}
+use Rattle.std.specs.Prelude.{List, [], ◌∷◌, ◌++◌, ◌≡◌, ℕ, ◌+◌, ◌-◌, ◌<◌, ◌≤◌, ◌^◌, Bool, ◌&&◌, nat_lt, ◌==◌, if◌then◌else◌, length, drop, get_or, max, Option, Some, ◌⊎◌, vec_capacity}
 use Rattle.mm_outside.specs.Told.{Told}
 use Rattle.mm_section.specs.declared.section.Section.{Section}
 use Rattle.mm_outside.specs.Leaves.{Leaves}
-use Rattle.mm_jfiles.specs.Files.{next_number, dropped, how_many}
+use Rattle.mm_outside.specs.Ask.{Ask}
+use Rattle.mm_section.specs.Spells.{section_bytes}
+use Rattle.mm_jfiles.specs.Files.{Files, next_number, last_number, ready, written, dropped, how_many, remove_asks}
+use Rattle.mm_jfiles.specs.Marks.{mark_asks}
 use Rattle.mm_crash.specs.Journal.{AllCan}
 use Rattle.mm_crash.specs.Story.{Story}
 use Rattle.mm_crash.specs.Rest.{Counts}
-use Rattle.mm_journal.specs.Tracks.{Tracks}
+use Rattle.mm_journal.specs.Tracks.{Tracks, log_asks}
 use Rattle.mm_journal.proofs.Real.{the_format, the_names}
 use Rattle.mm_prefix.specs.Prefix.{Numbers, PrefixAt, since, IsDurable}
 use Rattle.mm_durable.specs.Names.{db_of, AreDatabases, AreSectionsOf}
@@ -22,6 +25,10 @@ synced log = length log.receipts.items
 
 abbrev pub has_pending : Log → Bool
 has_pending log = nat_lt (synced log) (sealed log)
+
+-- the sections that aren't synced yet, the oldest first
+abbrev pub pending_sections : Log → List Section
+pending_sections log = drop (synced log - log.dropped) log.sections.items
 
 -- each section is synced and marked
 abbrev pub is_marked : Log → Bool
@@ -109,9 +116,35 @@ pub record HasMarked (old new : Log) : Type 0 where
   pub flushed_kept : new.flushed.items ≡ old.flushed.items
   pub floor_kept : new.floor ≡ old.floor
 
+-- a journal without files, of which each takes sections until it has so many bytes or more
+abbrev pub no_files : ℕ → Files
+no_files limit = record { limit = limit; first = 0; lasts = []; end = 0 }
+
+-- what is asked of the disk for the oldest of these sections: it is written behind the last, and synced
+abbrev pub oldest_asks : Files → List Section → List Ask
+oldest_asks f [] = []
+oldest_asks f (x ∷ sections) = log_asks f (section_bytes (last_number (ready f) + 1) x)
+
+-- the journal's files with it
+abbrev pub with_oldest : Files → List Section → Files
+with_oldest f [] = f
+with_oldest f (x ∷ sections) = written x.number (length (section_bytes (last_number (ready f) + 1) x)) (ready f)
+
+-- what is asked of the disk for the floor's number in the lsn file: nothing where it is there
+abbrev pub floor_asks : Log → List Ask
+floor_asks log = if nat_lt log.mark log.floor then mark_asks (log.last + log.floor) else []
+
+-- what is asked of the disk to trim the journal
+abbrev pub trim_asks : Log → List Ask
+trim_asks log = remove_asks log.journal.first (how_many (log.last + log.mark) log.journal.lasts)
+
 -- The journal's files are those from the first on that has a section above the marked number, or from the last on.
 abbrev pub HasTrimmed : Log → Log → Type 0
 HasTrimmed old new = new.journal ≡ dropped (how_many (old.last + old.mark) old.journal.lasts) old.journal
+
+-- what is asked of the disk to clear it
+abbrev pub clear_asks : Log → List Ask
+clear_asks log = remove_asks log.journal.first (length log.journal.lasts)
 
 -- the journal has no file
 abbrev pub HasCleared : Log → Type 0

@@ -1,19 +1,21 @@
 //! The durable side over the feeds of its databases.
 
-ghost use Rattle.std.specs.Prelude.{◌≡◌, ◌+◌, ◌<◌, ◌≤◌, ◌^◌, ◌⊎◌, if◌then◌else◌, ℕ, [], length, map, get_or, slice_set, true, false, Some, IfOk, IfErr, IfSome, IfNone, OnOk, OnErr};
+ghost use Rattle.std.specs.Prelude.{◌≡◌, ◌+◌, ◌<◌, ◌≤◌, ◌^◌, ◌⊎◌, if◌then◌else◌, ℕ, [], ◌∷◌, ◌++◌, length, map, get_or, slice_set, true, false, Some, IfOk, IfErr, IfSome, IfNone, OnOk, OnErr};
 ghost use Rattle.mm_outside.specs.declared.disk.Device.TheVariants.{Fault};
+ghost use Rattle.mm_outside.specs.Ask.{Makes};
 ghost use Rattle.mm_outside.specs.Fault.{HasCause};
 ghost use Rattle.mm_outside.specs.Told.{Told};
 ghost use Rattle.mm_tie.specs.Ends.{taken};
 ghost use Rattle.mm_tie.specs.Items.{image_of, up_to};
+ghost use Rattle.mm_crash.specs.Asks.{sync_asks};
 ghost use Rattle.mm_crash.specs.Recovered.{Files};
 ghost use Rattle.mm_crash.specs.Rest.{IsRecovered, new_story};
 ghost use Rattle.mm_journal.proofs.Real.{the_format, the_names};
 ghost use Rattle.mm_prefix.specs.Prefix.{at_first};
-ghost use Rattle.mm_durable.specs.Names.{AreDatabases};
-ghost use Rattle.mm_durable.specs.Log.{IsSound, IsKept, IsBegun, IsFloor, KeepsRun, KeepsCounts, HasLogged, HasFlushed, HasSynced, HasMarked, HasTrimmed, HasCleared, HasMore, HasReceipt, HasNoReceipt, sealed, synced, has_pending, is_marked};
+ghost use Rattle.mm_durable.specs.Names.{AreDatabases, all_files};
+ghost use Rattle.mm_durable.specs.Log.{IsSound, IsKept, IsBegun, IsFloor, KeepsRun, KeepsCounts, HasLogged, HasFlushed, HasSynced, HasMarked, HasTrimmed, HasCleared, HasMore, HasReceipt, HasNoReceipt, sealed, synced, pending_sections, has_pending, is_marked, no_files, oldest_asks, with_oldest, floor_asks, trim_asks, clear_asks};
 ghost use Rattle.mm_durable.specs.Intake.{IsIntake, IsOwn, HasTaken, HasEntry, KeepsFeeds, GivesNext, lists, rooms, rings};
-ghost use Rattle.mm_durable.specs.Flushed.{flushed_bytes, unflushed};
+ghost use Rattle.mm_durable.specs.Flushed.{flushed_bytes, unflushed, flush_asks};
 ghost use Rattle.mm_durable.specs.Durable.{IsOrderly, IsServed, ReadItems, Serves, StillServes, ServesSealed, LeavesOff, SameItems, SameButGone, AllClosed, items_of, is_ready, has_closed, next_section};
 
 use crate::intake::Intake;
@@ -52,6 +54,7 @@ fn begin(
     requires first { (d : ℕ) → d < length names.items → length (get_or (map taken feeds.items) d []) ≡ 1 }
     ensures sound { IfOk result (λ both. IsSound both.0) }
     ensures begun { IfOk result (λ both. IsBegun names.items last both.0) }
+    ensures journal { IfOk result (λ both. both.0.journal ≡ no_files limit) }
     ensures kept { IfOk result (λ both. (files : Files) (u : Told) → IsRecovered the_format the_names files last u → IsKept u (new_story files last) at_first both.0 u) }
     ensures intake { IfOk result (λ both. IsIntake names.items 0 both.1) }
     ensures feeds { IfOk result (λ both. both.1.feeds.items ≡ feeds.items) }
@@ -84,6 +87,7 @@ impl<D: Disk> Durable<D> {
         ensures orderly { IfOk result (λ durable. IsOrderly durable) }
         ensures begun { IfOk result (λ durable. IsBegun names.items last durable.log) }
         ensures feeds { IfOk result (λ durable. durable.intake.feeds.items ≡ feeds.items) }
+        ensures journal { IfOk result (λ durable. durable.log.journal ≡ no_files limit) }
         ensures kept { IfOk result (λ durable. (files : Files) (u : Told) → D.told disk ≡ Some u → IsRecovered the_format the_names files last u → ReadItems files names.items (items_of durable) → IsServed u u (new_story files last) at_first durable.log (items_of durable)) }
         ensures going { IfOk result (λ durable. durable.ended ≡ false) }
         ensures disk { IfOk result (λ durable. durable.disk ≡ disk) }
@@ -109,6 +113,7 @@ impl<D: Disk> Durable<D> {
         ensures run { KeepsRun self.old.log self.new.log }
         ensures counts { KeepsCounts self.old.log self.new.log }
         ensures feeds { KeepsFeeds self.old.intake self.new.intake }
+        ensures journal { self.new.log.journal ≡ self.old.log.journal }
         ensures kept { StillServes self.old self.new }
         ensures ended { self.new.ended ≡ self.old.ended }
         ensures disk { self.new.disk ≡ self.old.disk }
@@ -175,6 +180,7 @@ impl<D: Disk> Durable<D> {
         ensures more { HasMore self.old.log (next_section self.old) self.new.log }
         ensures counts { KeepsCounts self.old.log self.new.log }
         ensures feeds { KeepsFeeds self.old.intake self.new.intake }
+        ensures journal { self.new.log.journal ≡ self.old.log.journal }
         ensures kept { ServesSealed self.old (next_section self.old) self.new }
         ensures ended { self.new.ended ≡ self.old.ended }
         ensures disk { self.new.disk ≡ self.old.disk }
@@ -193,6 +199,9 @@ impl<D: Disk> Durable<D> {
         ensures orderly { OnOk result (IsOrderly self.new) }
         ensures same { OnOk result (SameItems self.old self.new) }
         ensures counts { IfOk result (λ logged. HasLogged (if logged then 1 else 0) self.old.log self.new.log) }
+        ensures receipts { IfOk result (λ logged. self.new.log.receipts.items ≡ self.old.log.receipts.items ++ (if logged then D.moment self.new.disk ∷ [] else [])) }
+        ensures journal { OnOk result (self.new.log.journal ≡ with_oldest self.old.log.journal (pending_sections self.old.log)) }
+        ensures made { OnOk result (Makes (oldest_asks self.old.log.journal (pending_sections self.old.log)) (D.told self.old.disk) (D.told self.new.disk)) }
         ensures kept { OnOk result (Serves self.old self.new (D.told self.old.disk) (D.told self.new.disk)) }
         ensures left { OnErr result (LeavesOff self.old (D.told self.old.disk) (D.told self.new.disk)) }
         ensures going { OnOk result (self.new.ended ≡ false) }
@@ -219,6 +228,8 @@ impl<D: Disk> Durable<D> {
         ensures orderly { OnOk result (IsOrderly self.new) }
         ensures same { OnOk result (SameItems self.old self.new) }
         ensures counts { OnOk result (HasFlushed db.0 (O.applied_to from.old) self.old.log self.new.log) }
+        ensures journal { OnOk result (self.new.log.journal ≡ self.old.log.journal) }
+        ensures made { OnOk result (Makes (flush_asks self.old.log db.0 (O.applied_to from.old)) (D.told self.old.disk) (D.told self.new.disk)) }
         ensures kept { OnOk result (Serves self.old self.new (D.told self.old.disk) (D.told self.new.disk)) }
         ensures left { OnErr result (LeavesOff self.old (D.told self.old.disk) (D.told self.new.disk)) }
         ensures going { OnOk result (self.new.ended ≡ false) }
@@ -243,6 +254,8 @@ impl<D: Disk> Durable<D> {
         ensures orderly { OnOk result (IsOrderly self.new) }
         ensures same { OnOk result (SameButGone self.old self.new) }
         ensures counts { OnOk result (HasSynced self.old.log self.new.log) }
+        ensures journal { OnOk result (self.new.log.journal ≡ self.old.log.journal) }
+        ensures made { OnOk result (Makes (sync_asks (all_files self.old.log.names.items)) (D.told self.old.disk) (D.told self.new.disk)) }
         ensures kept { OnOk result (Serves self.old self.new (D.told self.old.disk) (D.told self.new.disk)) }
         ensures left { OnErr result (LeavesOff self.old (D.told self.old.disk) (D.told self.new.disk)) }
         ensures going { OnOk result (self.new.ended ≡ false) }
@@ -264,6 +277,8 @@ impl<D: Disk> Durable<D> {
         ensures same { OnOk result (SameItems self.old self.new) }
         ensures counts { OnOk result (HasMarked self.old.log self.new.log) }
         ensures still { self.old.log.mark ≡ self.old.log.floor → D.told self.new.disk ≡ D.told self.old.disk }
+        ensures journal { OnOk result (self.new.log.journal ≡ self.old.log.journal) }
+        ensures made { OnOk result (Makes (floor_asks self.old.log) (D.told self.old.disk) (D.told self.new.disk)) }
         ensures kept { OnOk result (Serves self.old self.new (D.told self.old.disk) (D.told self.new.disk)) }
         ensures left { OnErr result (LeavesOff self.old (D.told self.old.disk) (D.told self.new.disk)) }
         ensures going { OnOk result (self.new.ended ≡ false) }
@@ -284,6 +299,7 @@ impl<D: Disk> Durable<D> {
         ensures same { OnOk result (SameItems self.old self.new) }
         ensures counts { OnOk result (KeepsCounts self.old.log self.new.log) }
         ensures trimmed { OnOk result (HasTrimmed self.old.log self.new.log) }
+        ensures made { OnOk result (Makes (trim_asks self.old.log) (D.told self.old.disk) (D.told self.new.disk)) }
         ensures kept { OnOk result (Serves self.old self.new (D.told self.old.disk) (D.told self.new.disk)) }
         ensures left { OnErr result (LeavesOff self.old (D.told self.old.disk) (D.told self.new.disk)) }
         ensures going { OnOk result (self.new.ended ≡ false) }
@@ -305,6 +321,7 @@ impl<D: Disk> Durable<D> {
         ensures same { OnOk result (SameItems self.old self.new) }
         ensures counts { OnOk result (KeepsCounts self.old.log self.new.log) }
         ensures cleared { OnOk result (HasCleared self.new.log) }
+        ensures made { OnOk result (Makes (clear_asks self.old.log) (D.told self.old.disk) (D.told self.new.disk)) }
         ensures kept { OnOk result (Serves self.old self.new (D.told self.old.disk) (D.told self.new.disk)) }
         ensures left { OnErr result (LeavesOff self.old (D.told self.old.disk) (D.told self.new.disk)) }
         ensures going { OnOk result (self.new.ended ≡ false) }

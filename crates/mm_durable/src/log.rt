@@ -2,6 +2,7 @@
 
 ghost use Rattle.std.specs.Prelude.{◌≡◌, ◌+◌, ◌<◌, ◌≤◌, ◌^◌, length, IfOk, OnOk, OnErr, true, false, vec_capacity};
 ghost use Rattle.mm_outside.specs.declared.disk.Device.TheVariants.{Fault};
+ghost use Rattle.mm_outside.specs.Ask.{Makes};
 ghost use Rattle.mm_outside.specs.Fault.{HasCause};
 ghost use Rattle.mm_durable.specs.Log.{IsLeast};
 
@@ -44,16 +45,17 @@ pub struct Receipt {
 }
 
 impl Log {
-    ghost use Rattle.std.specs.Prelude.{ℕ, [], get_or, if◌then◌else◌, IfSome, IfNone};
+    ghost use Rattle.std.specs.Prelude.{ℕ, [], ◌∷◌, ◌++◌, get_or, if◌then◌else◌, IfSome, IfNone};
     ghost use Rattle.mm_outside.specs.Told.{Told};
+    ghost use Rattle.mm_crash.specs.Asks.{sync_asks};
     ghost use Rattle.mm_crash.specs.Recovered.{Files};
     ghost use Rattle.mm_crash.specs.Story.{Story, with_section};
     ghost use Rattle.mm_crash.specs.Rest.{IsNext, IsRecovered, new_story};
     ghost use Rattle.mm_journal.proofs.Real.{the_format, the_names};
     ghost use Rattle.mm_prefix.specs.Prefix.{Numbers, at_first};
-    ghost use Rattle.mm_durable.specs.Names.{AreDatabases, ArePartsOf};
-    ghost use Rattle.mm_durable.specs.Flushed.{flushed_bytes, unflushed};
-    ghost use Rattle.mm_durable.specs.Log.{IsFloor, IsSound, IsKept, IsBegun, KeepsRun, KeepsCounts, LetsGo, HasLogged, HasFlushed, HasSynced, HasMarked, HasTrimmed, HasCleared, HasMore, Keeps, Leaving, HasReceipt, HasNoReceipt, sealed, synced, has_pending, is_marked};
+    ghost use Rattle.mm_durable.specs.Names.{AreDatabases, ArePartsOf, all_files};
+    ghost use Rattle.mm_durable.specs.Flushed.{flushed_bytes, unflushed, flush_asks};
+    ghost use Rattle.mm_durable.specs.Log.{IsFloor, IsSound, IsKept, IsBegun, KeepsRun, KeepsCounts, LetsGo, HasLogged, HasFlushed, HasSynced, HasMarked, HasTrimmed, HasCleared, HasMore, Keeps, Leaving, HasReceipt, HasNoReceipt, sealed, synced, pending_sections, has_pending, is_marked, no_files, oldest_asks, with_oldest, floor_asks, trim_asks, clear_asks};
 
     /// A run that has no section yet, over a disk that was recovered, with this number in its lsn file.
     pub fn start(alloc: Global, names: Vec<Name>, limit: u64, last: u64) -> Result<Log, NoMemory>
@@ -63,6 +65,7 @@ impl Log {
         requires names { AreDatabases names.items }
         ensures sound { IfOk result (λ log. IsSound log) }
         ensures begun { IfOk result (λ log. IsBegun names.items last log) }
+        ensures journal { IfOk result (λ log. log.journal ≡ no_files limit) }
         ensures kept { IfOk result (λ log. (files : Files) (u : Told) → IsRecovered the_format the_names files last u → IsKept u (new_story files last) at_first log u) }
     {
         let flushed = vec![in alloc; 0; names.as_slice().len()]?;
@@ -88,6 +91,7 @@ impl Log {
         ensures room { OnOk result (length self.new.sections.items < vec_capacity self.new.sections) }
         ensures run { KeepsRun self.old self.new }
         ensures counts { KeepsCounts self.old self.new }
+        ensures journal { self.new.journal ≡ self.old.journal }
         ensures kept { (t u : Told) (story : Story) (history : ℕ → Numbers) → IsKept t story history self.old u → IsKept t story history self.new u }
     {
         self.sections.reserve(1)?;
@@ -104,6 +108,7 @@ impl Log {
         ensures sound { IsSound self.new }
         ensures more { HasMore self.old section self.new }
         ensures counts { KeepsCounts self.old self.new }
+        ensures journal { self.new.journal ≡ self.old.journal }
         ensures kept { (t u : Told) (story : Story) (history : ℕ → Numbers) → IsKept t story history self.old u → IsNext the_format the_names story section → IsKept t (with_section story section) history self.new u }
     {
         self.sections.push_reserved(section);
@@ -177,6 +182,9 @@ impl Log {
         ensures sound { OnOk result (IsSound self.new) }
         ensures run { OnOk result (KeepsRun self.old self.new) }
         ensures counts { IfOk result (λ logged. HasLogged (if logged then 1 else 0) self.old self.new) }
+        ensures receipts { IfOk result (λ logged. self.new.receipts.items ≡ self.old.receipts.items ++ (if logged then D.moment disk.new ∷ [] else [])) }
+        ensures journal { OnOk result (self.new.journal ≡ with_oldest self.old.journal (pending_sections self.old)) }
+        ensures made { OnOk result (Makes (oldest_asks self.old.journal (pending_sections self.old)) (D.told disk.old) (D.told disk.new)) }
         ensures kept { OnOk result (Keeps self.old self.new (D.told disk.old) (D.told disk.new)) }
         ensures left { OnErr result (Leaving self.old (D.told disk.old) (D.told disk.new)) }
         ensures cause { HasCause Fault (D.faults disk.old) (D.faults disk.new) result }
@@ -203,6 +211,9 @@ impl Log {
         ensures sound { OnOk result (IsSound self.new) }
         ensures run { OnOk result (KeepsRun self.old self.new) }
         ensures counts { OnOk result (HasLogged 1 self.old self.new) }
+        ensures receipts { OnOk result (self.new.receipts.items ≡ self.old.receipts.items ++ D.moment disk.new ∷ []) }
+        ensures journal { OnOk result (self.new.journal ≡ with_oldest self.old.journal (pending_sections self.old)) }
+        ensures made { OnOk result (Makes (oldest_asks self.old.journal (pending_sections self.old)) (D.told disk.old) (D.told disk.new)) }
         ensures kept { OnOk result (Keeps self.old self.new (D.told disk.old) (D.told disk.new)) }
         ensures left { OnErr result (Leaving self.old (D.told disk.old) (D.told disk.new)) }
         ensures cause { HasCause Fault (D.faults disk.old) (D.faults disk.new) result }
@@ -227,6 +238,8 @@ impl Log {
         ensures sound { OnOk result (IsSound self.new) }
         ensures run { OnOk result (KeepsRun self.old self.new) }
         ensures counts { OnOk result (HasFlushed db upto self.old self.new) }
+        ensures journal { OnOk result (self.new.journal ≡ self.old.journal) }
+        ensures made { OnOk result (Makes (flush_asks self.old db upto) (D.told disk.old) (D.told disk.new)) }
         ensures kept { OnOk result (Keeps self.old self.new (D.told disk.old) (D.told disk.new)) }
         ensures left { OnErr result (Leaving self.old (D.told disk.old) (D.told disk.new)) }
         ensures cause { HasCause Fault (D.faults disk.old) (D.faults disk.new) result }
@@ -256,6 +269,8 @@ impl Log {
         ensures sound { OnOk result (IsSound self.new) }
         ensures run { OnOk result (KeepsRun self.old self.new) }
         ensures counts { OnOk result (HasSynced self.old self.new) }
+        ensures journal { OnOk result (self.new.journal ≡ self.old.journal) }
+        ensures made { OnOk result (Makes (sync_asks (all_files self.old.names.items)) (D.told disk.old) (D.told disk.new)) }
         ensures kept { OnOk result (Keeps self.old self.new (D.told disk.old) (D.told disk.new)) }
         ensures left { OnErr result (Leaving self.old (D.told disk.old) (D.told disk.new)) }
         ensures cause { HasCause Fault (D.faults disk.old) (D.faults disk.new) result }
@@ -271,6 +286,7 @@ impl Log {
         ensures sound { IsSound self.new }
         ensures gone { LetsGo self.old self.new }
         ensures counts { KeepsCounts self.old self.new }
+        ensures journal { self.new.journal ≡ self.old.journal }
         ensures kept { (t u : Told) (story : Story) (history : ℕ → Numbers) → IsKept t story history self.old u → IsKept t story history self.new u }
     {
         let count = self.floor - self.dropped;
@@ -287,6 +303,8 @@ impl Log {
         ensures run { OnOk result (KeepsRun self.old self.new) }
         ensures counts { OnOk result (HasMarked self.old self.new) }
         ensures still { self.old.mark ≡ self.old.floor → D.told disk.new ≡ D.told disk.old }
+        ensures journal { OnOk result (self.new.journal ≡ self.old.journal) }
+        ensures made { OnOk result (Makes (floor_asks self.old) (D.told disk.old) (D.told disk.new)) }
         ensures kept { OnOk result (Keeps self.old self.new (D.told disk.old) (D.told disk.new)) }
         ensures left { OnErr result (Leaving self.old (D.told disk.old) (D.told disk.new)) }
         ensures cause { HasCause Fault (D.faults disk.old) (D.faults disk.new) result }
@@ -305,6 +323,7 @@ impl Log {
         ensures run { OnOk result (KeepsRun self.old self.new) }
         ensures counts { OnOk result (KeepsCounts self.old self.new) }
         ensures trimmed { OnOk result (HasTrimmed self.old self.new) }
+        ensures made { OnOk result (Makes (trim_asks self.old) (D.told disk.old) (D.told disk.new)) }
         ensures kept { OnOk result (Keeps self.old self.new (D.told disk.old) (D.told disk.new)) }
         ensures left { OnErr result (Leaving self.old (D.told disk.old) (D.told disk.new)) }
         ensures cause { HasCause Fault (D.faults disk.old) (D.faults disk.new) result }
@@ -321,6 +340,7 @@ impl Log {
         ensures run { OnOk result (KeepsRun self.old self.new) }
         ensures counts { OnOk result (KeepsCounts self.old self.new) }
         ensures cleared { OnOk result (HasCleared self.new) }
+        ensures made { OnOk result (Makes (clear_asks self.old) (D.told disk.old) (D.told disk.new)) }
         ensures kept { OnOk result (Keeps self.old self.new (D.told disk.old) (D.told disk.new)) }
         ensures left { OnErr result (Leaving self.old (D.told disk.old) (D.told disk.new)) }
         ensures cause { HasCause Fault (D.faults disk.old) (D.faults disk.new) result }

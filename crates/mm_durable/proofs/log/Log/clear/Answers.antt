@@ -18,3 +18,6 @@ returns-clause-kept g c =
 
 pub returns-clause-cleared : goal.returns-clause-cleared
 returns-clause-cleared g c = ap (λ (f : Files). f.lasts) c.in_ok-clear.ensures.state ∙ drop_all c.args.self.now.journal.lasts
+
+pub returns-clause-made : goal.returns-clause-made
+returns-clause-made g c = c.in_ok-clear.ensures.made

@@ -8,7 +8,7 @@ use Rattle.mm_durable.proofs.Steps.{on_err_holds, leaving}
 use Rattle.mm_durable.proofs.Marks.{idle}
 use Rattle.mm_durable.proofs.Flushes.{at_place, slice, slice_named, flushing_safe, flushes}
 use Rattle.mm_durable.specs.Flushed.{flushed_bytes}
-use Rattle.mm_durable.proofs.Counted.{sections_small, slice_can, slice_few, none_left, flushed_before, flushed_farther}
+use Rattle.mm_durable.proofs.Counted.{sections_small, slice_can, slice_few, none_left, asks_none, flushed_before, flushed_farther}
 use Rattle.mm_durable.proofs.log.Log.flush.Goals as goal
 
 -- how many are flushed, and the database's name
@@ -92,3 +92,21 @@ returns-clause-counts g c =
     let old = c.args.self.now in
     let is = flushed_is old c.requires.sound c.args.db c.index-from.result.now c.requires.db c.index-from.ensures in
     flushed_farther old c.requires.sound c.args.db c.requires.db c.args.upto (omega (arith, is, c.if-upto-self.false)) _ refl refl refl refl
+
+pub returns-then-upto-self-clause-made : goal.returns-then-upto-self-clause-made
+returns-then-upto-self-clause-made g c =
+    let old = c.args.self.now in
+    let is = flushed_is old c.requires.sound c.args.db c.index-from.result.now c.requires.db c.index-from.ensures in
+    asks_none old c.args.db c.args.upto (omega (arith, is, c.if-upto-self.true)) _
+
+pub returns-clause-made : goal.returns-clause-made
+returns-clause-made g c =
+    let old = c.args.self.now in
+    let from = c.index-from.result.now in
+    let is = flushed_is old c.requires.sound c.args.db from c.requires.db c.index-from.ensures in
+    let named = name_is old.names.items c.args.db c.bytes.result.now c.index.result.now c.requires.db c.bytes.ensures.is c.index.ensures in
+    made_as _ _ _ _
+    (ap (λ (n : List ℕ). own_of_sections n (take (c.args.upto - old.last - old.dropped - (from - old.dropped)) (drop (from - old.dropped) c.deref.result.now))) named
+    ∙ ap (λ (l : List Section). own_of_sections (get_or old.names.items c.args.db []) (take (c.args.upto - old.last - old.dropped - (from - old.dropped)) (drop (from - old.dropped) l))) c.deref.ensures.value
+    ∙ ap (λ (n : ℕ). own_of_sections (get_or old.names.items c.args.db []) (take (c.args.upto - old.last - old.dropped - (n - old.dropped)) (drop (n - old.dropped) old.sections.items))) is)
+    c.in_ok-written.ensures.made

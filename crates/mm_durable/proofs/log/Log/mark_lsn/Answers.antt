@@ -1,7 +1,7 @@
 use Rattle.std.proofs.Common.{◌+◌, refl, arith}
 use Rattle.mm_jfiles.specs.Marks.{mark_asks}
 use Rattle.mm_durable.proofs.Steps.{on_err_holds, leaving}
-use Rattle.mm_durable.proofs.Marks.{marking_safe, marked, idle}
+use Rattle.mm_durable.proofs.Marks.{marks_floor, marks_nothing, marking_safe, marked, idle}
 use Rattle.mm_durable.proofs.log.Log.mark_lsn.Goals as goal
 
 pub returns-in_err-write_mark-clause-left : goal.returns-in_err-write_mark-clause-left
@@ -23,3 +23,9 @@ returns-in_ok-write_mark-clause-still g c = λ same. absurd (omega (arith, same,
 
 pub returns-else-self-clause-still : goal.returns-else-self-clause-still
 returns-else-self-clause-still g c = λ same. refl
+
+pub returns-in_ok-write_mark-clause-made : goal.returns-in_ok-write_mark-clause-made
+returns-in_ok-write_mark-clause-made g c = marks_floor c.args.self.now c.if-self.true _ _ c.in_ok-write_mark.ensures.made
+
+pub returns-else-self-clause-made : goal.returns-else-self-clause-made
+returns-else-self-clause-made g c = marks_nothing c.args.self.now c.if-self.false _

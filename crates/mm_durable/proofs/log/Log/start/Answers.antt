@@ -19,3 +19,6 @@ returns-clause-kept c = begins _ c.args.last (record {
   floor = refl;
   mark = refl;
 })
+
+pub returns-clause-journal : goal.returns-clause-journal
+returns-clause-journal c = c.start.ensures

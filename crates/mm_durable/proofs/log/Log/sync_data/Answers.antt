@@ -23,3 +23,6 @@ returns-clause-kept g c =
     let floor = c.least_flushed-self.result in
     let is = c.least_flushed-self.ensures in
     synced_to old _ c.requires.sound floor (low old c.requires.sound floor is) (above old c.requires.sound floor is) is.most (record { names = refl; last = refl }) refl refl refl refl refl refl refl _ _ (made_syncs _ _ _ _ (ap all_files c.deref.ensures.value) c.in_ok-sync_databases.ensures.made)
+
+pub returns-clause-made : goal.returns-clause-made
+returns-clause-made g c = made_syncs _ _ _ _ (ap all_files c.deref.ensures.value) c.in_ok-sync_databases.ensures.made

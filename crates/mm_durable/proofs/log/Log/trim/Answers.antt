@@ -22,3 +22,6 @@ returns-clause-kept g c =
 
 pub returns-clause-trimmed : goal.returns-clause-trimmed
 returns-clause-trimmed g c = c.in_ok-trim.ensures.state
+
+pub returns-clause-made : goal.returns-clause-made
+returns-clause-made g c = c.in_ok-trim.ensures.made
