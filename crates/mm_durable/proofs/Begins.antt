@@ -73,9 +73,9 @@ adds old new x sound files names last sections dropped receipts flushed floor ma
       last = k.last ∙ sym last;
     }
 
-pub grows : (old new : Log) (x : Section) → IsSound old → the_format.can x ≡ true → ArePartsOf old.names.items x.parts → sealed old + 1 < 2 ^ 32 → new.journal ≡ old.journal → new.names.items ≡ old.names.items → new.last ≡ old.last → new.sections.items ≡ old.sections.items ++ x ∷ [] → new.dropped ≡ old.dropped → new.receipts.items ≡ old.receipts.items
+pub grows : (old new : Log) (x : Section) → IsSound old → the_format.can x ≡ true → ArePartsOf old.names.items x.parts → sealed old + 1 < 2 ^ 32 → new.names.items ≡ old.names.items → new.last ≡ old.last → new.sections.items ≡ old.sections.items ++ x ∷ [] → new.dropped ≡ old.dropped → new.receipts.items ≡ old.receipts.items
     → new.flushed.items ≡ old.flushed.items → new.floor ≡ old.floor → new.mark ≡ old.mark → IsSound new
-grows old new x s can own few files names last sections dropped receipts flushed floor mark =
+grows old new x s can own few names last sections dropped receipts flushed floor mark =
     let more : length new.sections.items ≡ length old.sections.items + 1 = ap length sections ∙ length-append old.sections.items (x ∷ []) in
     record {
       names = subst AreDatabases (sym names) s.names;
@@ -90,6 +90,4 @@ grows old new x s can own few files names last sections dropped receipts flushed
       there = omega (arith, s.there, more, dropped, ap length receipts);
       few = omega (arith, few, more, dropped);
       last = omega (arith, s.last, last);
-      limit = omega (arith, s.limit, ap (λ (f : journal.Files). f.limit) files);
-      begun = omega (arith, s.begun, ap journal.next_number files, ap length receipts);
     }

@@ -15,7 +15,7 @@ use Rattle.mm_prefix.specs.Prefix.{Numbers}
 use Rattle.mm_prefix.proofs.Logging.{next_is}
 use Rattle.mm_prefix.proofs.Removing.{AreMarked, remove_all_safe, remove_all_rest}
 use Rattle.mm_durable.specs.Names.{db_of}
-use Rattle.mm_durable.specs.Log.{IsSound, IsKept, Keeps, synced, sealed, is_marked}
+use Rattle.mm_durable.specs.Log.{IsSound, GoesOn, IsKept, Keeps, synced, sealed, is_marked}
 use Rattle.mm_durable.specs.declared.log.Log.{Log}
 use Rattle.mm_durable.proofs.Steps.{AreSafe, keeps}
 
@@ -28,15 +28,16 @@ module _ (old : Log) (sound : IsSound old) (k : ℕ) where
   abbrev pub MayGo : Type 0
   MayGo = (t u : Told) (story : Story) (history : ℕ → Numbers) (x : IsKept t story history old u) → (k ≤ length x.counts.runs) × AreMarked the_format the_names (db_of old.names.items) speaks story x.durable.sound k x.counts x.counts.runs
 
+module _ (old : Log) (sound : IsSound old) (goes : GoesOn old) (k : ℕ) where
   small : (t u : Told) (story : Story) (history : ℕ → Numbers) (x : IsKept t story history old u) → x.counts.first + length x.counts.runs ≤ 2 ^ 32
-  small t u story history x = omega (arith, next_is the_format old.journal x.counts x.tracks, sound.begun, sound.there, sound.few)
+  small t u story history x = omega (arith, next_is the_format old.journal x.counts x.tracks, goes.begun, sound.there, sound.few)
 
-  pub removing_safe : MayGo → AreSafe old (remove_asks old.journal.first k)
+  pub removing_safe : MayGo old sound k → AreSafe old (remove_asks old.journal.first k)
   removing_safe may t u story history x =
       let m = may t u story history x in
       remove_all_safe the_format the_names (db_of old.names.items) speaks story x.durable.sound k old.journal x.counts u x.tracks x.durable.rest x.counts.runs refl m.0 (small t u story history x) m.1
 
-  pub removed : MayGo → (journal : Files) → journal ≡ dropped k old.journal → (before after : Option Told) → Makes (remove_asks old.journal.first k) before after → Keeps old (record old { journal = journal }) before after
+  pub removed : MayGo old sound k → (journal : Files) → journal ≡ dropped k old.journal → (before after : Option Told) → Makes (remove_asks old.journal.first k) before after → Keeps old (record old { journal = journal }) before after
   removed may journal is before after made = keeps old (record old { journal = journal }) before after (remove_asks old.journal.first k) (record { names = refl; last = refl }) made (removing_safe may) refl
       (λ t u story history x.
       let m = may t u story history x in

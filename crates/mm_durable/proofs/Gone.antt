@@ -66,8 +66,6 @@ still_sound old «new» s r =
       there = omega (arith, s.there, same, ap length r.receipts);
       few = omega (arith, s.few, same);
       last = omega (arith, s.last, r.last);
-      limit = omega (arith, s.limit, ap (λ (f : journal.Files). f.limit) r.journal);
-      begun = omega (arith, s.begun, ap journal.next_number r.journal, ap length r.receipts);
     }
 
 pub still_kept : (old «new» : Log) → IsSound old → IsRest old «new» → (t u : Told) (story : Story) (history : ℕ → Numbers) → IsKept t story history old u → IsKept t story history «new» u

@@ -17,7 +17,7 @@ use Rattle.mm_journal.proofs.Real.{the_format, the_names, speaks, can_is}
 use Rattle.mm_prefix.specs.Prefix.{Numbers}
 use Rattle.mm_prefix.proofs.Logging.{log_safe, log_rest}
 use Rattle.mm_durable.specs.Names.{db_of}
-use Rattle.mm_durable.specs.Log.{IsSound, IsKept, Keeps, Leaving, synced, sealed, pending_sections, has_pending, oldest_asks, with_oldest}
+use Rattle.mm_durable.specs.Log.{IsSound, GoesOn, IsKept, Keeps, Leaving, synced, sealed, pending_sections, has_pending, oldest_asks, with_oldest}
 use Rattle.mm_durable.specs.declared.log.Log.{Log}
 use Rattle.mm_durable.proofs.Steps.{AreSafe, Stands, SameRun, leaving, keeps_one}
 
@@ -75,7 +75,7 @@ last_stays f number len =
     let lasts = (ready f).lasts in
     omega (arith, some, length-append (take (length lasts - 1) lasts) (number ∷ []), length-take-le (length lasts - 1) lasts (omega arith))
 
-module _ (old : Log) (sound : IsSound old) (pending : has_pending old ≡ true) (x : Section) (is : x ≡ get_or old.sections.items (synced old - old.dropped) x) (bytes : List ℕ) (spelled : bytes ≡ section_bytes (last_number (ready old.journal) + 1) x) where
+module _ (old : Log) (sound : IsSound old) (goes : GoesOn old) (pending : has_pending old ≡ true) (x : Section) (is : x ≡ get_or old.sections.items (synced old - old.dropped) x) (bytes : List ℕ) (spelled : bytes ≡ section_bytes (last_number (ready old.journal) + 1) x) where
   abbrev place : ℕ
   place = synced old - old.dropped
 
@@ -89,7 +89,7 @@ module _ (old : Log) (sound : IsSound old) (pending : has_pending old ≡ true) 
   its_spelling = spelled ∙ spells (last_number (ready old.journal)) x
 
   room : Rattle.mm_jfiles.specs.Files.next_number old.journal < 2 ^ 32
-  room = omega (arith, sound.begun, sound.there, sound.few)
+  room = omega (arith, goes.begun, sound.there, sound.few)
 
   oldest : pending_sections old ≡ x ∷ others
   oldest = rw add-one (drop-cons old.sections.items place x inside) ∙ ap (λ (y : Section). y ∷ others) (sym is)

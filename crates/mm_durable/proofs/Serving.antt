@@ -1,16 +1,17 @@
 -- From the log's fact to that of the durable side.
-use Rattle.std.proofs.Common.{◌≡◌, inl, inr, ℕ, ◌^◌, ◌<◌, ◌≤◌, ◌==◌, true, List, [], length, get_or, Option, Some, refl, sym, ◌∙◌, ap, subst, arith}
+use Rattle.std.proofs.Common.{◌≡◌, inl, inr, ℕ, ◌^◌, ◌<◌, ◌≤◌, ◌==◌, true, false, true≢false, List, [], length, get_or, Option, Some, refl, sym, ◌∙◌, ap, subst, arith}
 use Rattle.std.specs.Prelude.{vec_capacity}
 use Rattle.std.proofs.lemmas.Bool.Decides.{nat_tests}
 use Rattle.std.proofs.lemmas.List.{length-map}
 use Rattle.mm_outside.specs.Told.{Told}
 use Rattle.mm_ranges.specs.declared.part.Closed.{Closed}
 use Rattle.mm_tie.specs.Ends.{taker_ring}
+use Rattle.mm_jfiles.specs.Files.{Files, next_number}
 use Rattle.mm_crash.specs.Story.{Story}
 use Rattle.mm_prefix.specs.Prefix.{Numbers, since}
 use Rattle.mm_items.specs.Given.{Taken}
 use Rattle.mm_durable.specs.Names.{has_name}
-use Rattle.mm_durable.specs.Log.{IsSound, KeepsRun, Keeps, Leaving, numbers, sealed}
+use Rattle.mm_durable.specs.Log.{IsSound, GoesOn, KeepsRun, Keeps, Leaving, numbers, sealed}
 use Rattle.mm_durable.specs.Intake.{by_name, lists, AreRising, AreSeated, AreAllOrNone, HasEntry, IsIntake, SameTaken}
 use Rattle.mm_durable.specs.Durable.{HasImages, IsServed, IsOrderly, LeavesOff, SameItems}
 use Rattle.mm_durable.specs.declared.log.Log.{Log}
@@ -90,13 +91,22 @@ intake_as names n m old new e same is = record {
     room_as : (old.parts.items ≡ []) × (length names ≤ vec_capacity old.parts) → (new.parts.items ≡ []) × (length names ≤ vec_capacity new.parts)
     room_as h = (same.parts ∙ h.0, omega (arith, h.1, same.space))
 
-pub orderly : {D : Type 0} (old new : Durable D) → SameItems old new → IsOrderly old → IsSound new.log → IsOrderly new
-orderly old new same is sound = record {
+pub orderly : {D : Type 0} (old new : Durable D) → SameItems old new → IsOrderly old → IsSound new.log → (new.ended ≡ false → GoesOn new.log) → IsOrderly new
+orderly old new same is sound goes = record {
   sound = sound;
+  goes = goes;
   intake_is =
       subst (λ (l : List (List ℕ)). IsIntake l (sealed new.log) new.intake) (sym same.run.names)
       (intake_as old.log.names.items (sealed old.log) (sealed new.log) old.intake new.intake (sealed_as old.log new.log same.run) same.same_taken is.intake_is);
 }
+
+-- a side that is ended doesn't go on
+pub ended_stays : {log : Log} → true ≡ false → GoesOn log
+ended_stays so = absurd (true≢false so)
+
+-- a call that leaves the journal and the receipts as they are
+pub goes_as : (old new : Log) → new.journal ≡ old.journal → new.receipts.items ≡ old.receipts.items → GoesOn old → GoesOn new
+goes_as old new journal receipts is = record { limit = omega (arith, is.limit, ap (λ (f : Files). f.limit) journal); begun = omega (arith, is.begun, ap next_number journal, ap length receipts) }
 
 pub run_same : (log : Log) → KeepsRun log log
 run_same log = record { names = refl; last = refl; sections = refl; dropped = refl; space = omega arith }

@@ -9,7 +9,7 @@ use Rattle.mm_crash.specs.Journal.{IsNumbered}
 use Rattle.mm_crash.specs.Rest.{Counts, all_of}
 use Rattle.mm_crash.proofs.Runs.{numbered_take, numbered_drop}
 use Rattle.mm_journal.specs.Tracks.{last_of}
-use Rattle.mm_durable.specs.Log.{IsSound}
+use Rattle.mm_durable.specs.Log.{IsSound, GoesOn}
 use Rattle.mm_durable.specs.declared.log.Log.{Log}
 use Rattle.mm_durable.proofs.Clears.{MayGo}
 
@@ -52,23 +52,11 @@ few upto (x ∷ y ∷ ys) = at_most (nat_le x upto) (how_many upto (y ∷ ys)) (
     at_most true n k le = omega (arith, le)
     at_most false n k le = omega arith
 
--- without them the log is as sound as before
-pub still_sound : (old : Log) → IsSound old → (f : Files) → f ≡ dropped (how_many (old.last + old.mark) old.journal.lasts) old.journal → IsSound (record old { journal = f })
-still_sound old s f is =
+-- without them the journal goes on as before
+pub still_goes : (old : Log) → GoesOn old → (f : Files) → f ≡ dropped (how_many (old.last + old.mark) old.journal.lasts) old.journal → GoesOn (record old { journal = f })
+still_goes old s f is =
     let k : ℕ = how_many (old.last + old.mark) old.journal.lasts in
     record {
-      names = s.names;
-      can = s.can;
-      own = s.own;
-      kept = s.kept;
-      order = s.order;
-      floor_synced = s.floor_synced;
-      floor_flushed = s.floor_flushed;
-      flushed_synced = s.flushed_synced;
-      each = s.each;
-      there = s.there;
-      few = s.few;
-      last = s.last;
       limit = omega (arith, s.limit, ap (λ (g : Files). g.limit) is);
       begun = omega (arith, s.begun, ap next_number is, length-drop k old.journal.lasts, few (old.last + old.mark) old.journal.lasts);
     }

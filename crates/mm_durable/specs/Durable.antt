@@ -1,5 +1,5 @@
 -- The fact of the durable side, and what its calls keep.
-use Rattle.std.specs.Prelude.{◌≡◌, ℕ, ◌+◌, ◌<◌, ◌≤◌, Bool, true, ◌&&◌, ◌==◌, nat_lt, List, [], length, take, get_or, Option, Some, vec_capacity}
+use Rattle.std.specs.Prelude.{◌≡◌, ℕ, ◌+◌, ◌<◌, ◌≤◌, Bool, true, false, ◌&&◌, ◌==◌, nat_lt, List, [], length, take, get_or, Option, Some, vec_capacity}
 use Rattle.mm_outside.specs.Told.{Told}
 use Rattle.mm_outside.specs.Leaves.{Leaves}
 use Rattle.std.specs.FinMap.{get}
@@ -13,7 +13,7 @@ use Rattle.mm_journal.proofs.Real.{the_format, the_names}
 use Rattle.mm_prefix.specs.Prefix.{Numbers, PrefixAt, since}
 use Rattle.mm_items.specs.Files.{AreLaid}
 use Rattle.mm_items.specs.Given.{Taken, images_of, sealed_parts}
-use Rattle.mm_durable.specs.Log.{IsSound, IsKept, KeepsRun, LetsGo, numbers, sealed}
+use Rattle.mm_durable.specs.Log.{IsSound, GoesOn, IsKept, KeepsRun, LetsGo, numbers, sealed}
 use Rattle.mm_durable.specs.Intake.{is_ours, by_name, first_items, lists, group_of, has_seats, IsIntake, SameTaken}
 use Rattle.mm_durable.specs.declared.log.Log.{Log}
 use Rattle.mm_durable.specs.declared.durable.Durable.{Durable}
@@ -37,10 +37,11 @@ module _ {D : Type 0} where
   abbrev pub items_of : Durable D → Taken
   items_of d = by_name d.log.names.items (lists d.intake)
 
-  -- whatever the disk tells
+  -- whatever the disk tells, and also where a device call was stopped
   pub record IsOrderly (d : Durable D) : Type 0 where
     pub sound : IsSound d.log
     pub intake_is : IsIntake d.log.names.items (sealed d.log) d.intake
+    pub goes : d.ended ≡ false → GoesOn d.log
 
   -- since the last seal `ready` answered Ok
   abbrev pub is_ready : Durable D → Bool

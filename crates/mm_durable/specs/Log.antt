@@ -61,6 +61,9 @@ pub record IsSound (log : Log) : Type 0 where
   pub there : synced log ≤ sealed log
   pub few : sealed log < 2 ^ 32
   pub last : log.last ≤ 2 ^ 63
+
+-- The journal can go on: it has begun no more files than sections are synced. After a call that was stopped that isn't known.
+pub record GoesOn (log : Log) : Type 0 where
   pub limit : log.journal.limit ≤ 2 ^ 63
   pub begun : next_number log.journal ≤ synced log
 

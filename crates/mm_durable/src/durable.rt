@@ -13,7 +13,7 @@ ghost use Rattle.mm_crash.specs.Rest.{IsRecovered, new_story};
 ghost use Rattle.mm_journal.proofs.Real.{the_format, the_names};
 ghost use Rattle.mm_prefix.specs.Prefix.{at_first};
 ghost use Rattle.mm_durable.specs.Names.{AreDatabases, all_files};
-ghost use Rattle.mm_durable.specs.Log.{IsSound, IsKept, IsBegun, IsFloor, KeepsRun, KeepsCounts, HasLogged, HasFlushed, HasSynced, HasMarked, HasTrimmed, HasCleared, HasMore, HasReceipt, HasNoReceipt, sealed, synced, pending_sections, has_pending, is_marked, no_files, oldest_asks, with_oldest, floor_asks, trim_asks, clear_asks};
+ghost use Rattle.mm_durable.specs.Log.{IsSound, GoesOn, IsKept, IsBegun, IsFloor, KeepsRun, KeepsCounts, HasLogged, HasFlushed, HasSynced, HasMarked, HasTrimmed, HasCleared, HasMore, HasReceipt, HasNoReceipt, sealed, synced, pending_sections, has_pending, is_marked, no_files, oldest_asks, with_oldest, floor_asks, trim_asks, clear_asks};
 ghost use Rattle.mm_durable.specs.Intake.{IsIntake, IsOwn, HasTaken, HasEntry, KeepsFeeds, GivesNext, lists, rooms, rings};
 ghost use Rattle.mm_durable.specs.Flushed.{flushed_bytes, unflushed, flush_asks};
 ghost use Rattle.mm_durable.specs.Durable.{IsOrderly, IsServed, ReadItems, Serves, StillServes, ServesSealed, LeavesOff, SameItems, SameButGone, AllClosed, items_of, is_ready, has_closed, next_section};
@@ -53,6 +53,7 @@ fn begin(
     requires feeds { length feeds.items ≡ length names.items }
     requires first { (d : ℕ) → d < length names.items → length (get_or (map taken feeds.items) d []) ≡ 1 }
     ensures sound { IfOk result (λ both. IsSound both.0) }
+    ensures goes { IfOk result (λ both. GoesOn both.0) }
     ensures begun { IfOk result (λ both. IsBegun names.items last both.0) }
     ensures journal { IfOk result (λ both. both.0.journal ≡ no_files limit) }
     ensures kept { IfOk result (λ both. (files : Files) (u : Told) → IsRecovered the_format the_names files last u → IsKept u (new_story files last) at_first both.0 u) }
@@ -196,9 +197,10 @@ impl<D: Disk> Durable<D> {
         requires orderly { IsOrderly self.old }
         requires going { self.old.ended ≡ false }
         ensures answer { IfOk result (λ logged. logged ≡ has_pending self.old.log) }
-        ensures orderly { OnOk result (IsOrderly self.new) }
-        ensures same { OnOk result (SameItems self.old self.new) }
+        ensures orderly { IsOrderly self.new }
+        ensures same { SameItems self.old self.new }
         ensures counts { IfOk result (λ logged. HasLogged (if logged then 1 else 0) self.old.log self.new.log) }
+        ensures unmoved { OnErr result (KeepsCounts self.old.log self.new.log) }
         ensures receipts { IfOk result (λ logged. self.new.log.receipts.items ≡ self.old.log.receipts.items ++ (if logged then D.moment self.new.disk ∷ [] else [])) }
         ensures journal { OnOk result (self.new.log.journal ≡ with_oldest self.old.log.journal (pending_sections self.old.log)) }
         ensures made { OnOk result (Makes (oldest_asks self.old.log.journal (pending_sections self.old.log)) (D.told self.old.disk) (D.told self.new.disk)) }
@@ -225,9 +227,10 @@ impl<D: Disk> Durable<D> {
         ensures bytes { IfOk result (λ bytes. bytes ≡ flushed_bytes (get_or self.old.log.names.items db.0 []) (unflushed self.old.log db.0 (O.applied_to from.old))) }
         ensures shared { (O.viewed from.old).shared ≡ image_of (up_to (O.applied_to from.old) (O.given from.old)) }
         ensures agree { HasTaken self.old.intake db.0 (O.given from.old) }
-        ensures orderly { OnOk result (IsOrderly self.new) }
-        ensures same { OnOk result (SameItems self.old self.new) }
+        ensures orderly { IsOrderly self.new }
+        ensures same { SameItems self.old self.new }
         ensures counts { OnOk result (HasFlushed db.0 (O.applied_to from.old) self.old.log self.new.log) }
+        ensures unmoved { OnErr result (KeepsCounts self.old.log self.new.log) }
         ensures journal { OnOk result (self.new.log.journal ≡ self.old.log.journal) }
         ensures made { OnOk result (Makes (flush_asks self.old.log db.0 (O.applied_to from.old)) (D.told self.old.disk) (D.told self.new.disk)) }
         ensures kept { OnOk result (Serves self.old self.new (D.told self.old.disk) (D.told self.new.disk)) }
@@ -251,9 +254,11 @@ impl<D: Disk> Durable<D> {
         requires orderly { IsOrderly self.old }
         requires going { self.old.ended ≡ false }
         ensures floor { OnOk result (IsFloor self.new.log.floor self.old.log) }
-        ensures orderly { OnOk result (IsOrderly self.new) }
+        ensures orderly { IsOrderly self.new }
         ensures same { OnOk result (SameButGone self.old self.new) }
         ensures counts { OnOk result (HasSynced self.old.log self.new.log) }
+        ensures unmoved { OnErr result (KeepsCounts self.old.log self.new.log) }
+        ensures still { OnErr result (SameItems self.old self.new) }
         ensures journal { OnOk result (self.new.log.journal ≡ self.old.log.journal) }
         ensures made { OnOk result (Makes (sync_asks (all_files self.old.log.names.items)) (D.told self.old.disk) (D.told self.new.disk)) }
         ensures kept { OnOk result (Serves self.old self.new (D.told self.old.disk) (D.told self.new.disk)) }
@@ -273,9 +278,10 @@ impl<D: Disk> Durable<D> {
     pub fn mark_lsn(&mut self) -> Result<(), Device>
         requires orderly { IsOrderly self.old }
         requires going { self.old.ended ≡ false }
-        ensures orderly { OnOk result (IsOrderly self.new) }
-        ensures same { OnOk result (SameItems self.old self.new) }
+        ensures orderly { IsOrderly self.new }
+        ensures same { SameItems self.old self.new }
         ensures counts { OnOk result (HasMarked self.old.log self.new.log) }
+        ensures unmoved { OnErr result (KeepsCounts self.old.log self.new.log) }
         ensures still { self.old.log.mark ≡ self.old.log.floor → D.told self.new.disk ≡ D.told self.old.disk }
         ensures journal { OnOk result (self.new.log.journal ≡ self.old.log.journal) }
         ensures made { OnOk result (Makes (floor_asks self.old.log) (D.told self.old.disk) (D.told self.new.disk)) }
@@ -295,9 +301,10 @@ impl<D: Disk> Durable<D> {
     pub fn trim(&mut self) -> Result<(), Device>
         requires orderly { IsOrderly self.old }
         requires going { self.old.ended ≡ false }
-        ensures orderly { OnOk result (IsOrderly self.new) }
-        ensures same { OnOk result (SameItems self.old self.new) }
+        ensures orderly { IsOrderly self.new }
+        ensures same { SameItems self.old self.new }
         ensures counts { OnOk result (KeepsCounts self.old.log self.new.log) }
+        ensures unmoved { OnErr result (KeepsCounts self.old.log self.new.log) }
         ensures trimmed { OnOk result (HasTrimmed self.old.log self.new.log) }
         ensures made { OnOk result (Makes (trim_asks self.old.log) (D.told self.old.disk) (D.told self.new.disk)) }
         ensures kept { OnOk result (Serves self.old self.new (D.told self.old.disk) (D.told self.new.disk)) }
@@ -317,9 +324,10 @@ impl<D: Disk> Durable<D> {
         requires orderly { IsOrderly self.old }
         requires going { self.old.ended ≡ false }
         requires marked { is_marked self.old.log ≡ true }
-        ensures orderly { OnOk result (IsOrderly self.new) }
-        ensures same { OnOk result (SameItems self.old self.new) }
+        ensures orderly { IsOrderly self.new }
+        ensures same { SameItems self.old self.new }
         ensures counts { OnOk result (KeepsCounts self.old.log self.new.log) }
+        ensures unmoved { OnErr result (KeepsCounts self.old.log self.new.log) }
         ensures cleared { OnOk result (HasCleared self.new.log) }
         ensures made { OnOk result (Makes (clear_asks self.old.log) (D.told self.old.disk) (D.told self.new.disk)) }
         ensures kept { OnOk result (Serves self.old self.new (D.told self.old.disk) (D.told self.new.disk)) }

@@ -55,7 +55,7 @@ impl Log {
     ghost use Rattle.mm_prefix.specs.Prefix.{Numbers, at_first};
     ghost use Rattle.mm_durable.specs.Names.{AreDatabases, ArePartsOf, all_files};
     ghost use Rattle.mm_durable.specs.Flushed.{flushed_bytes, unflushed, flush_asks};
-    ghost use Rattle.mm_durable.specs.Log.{IsFloor, IsSound, IsKept, IsBegun, KeepsRun, KeepsCounts, LetsGo, HasLogged, HasFlushed, HasSynced, HasMarked, HasTrimmed, HasCleared, HasMore, Keeps, Leaving, HasReceipt, HasNoReceipt, sealed, synced, pending_sections, has_pending, is_marked, no_files, oldest_asks, with_oldest, floor_asks, trim_asks, clear_asks};
+    ghost use Rattle.mm_durable.specs.Log.{IsFloor, IsSound, GoesOn, IsKept, IsBegun, KeepsRun, KeepsCounts, LetsGo, HasLogged, HasFlushed, HasSynced, HasMarked, HasTrimmed, HasCleared, HasMore, Keeps, Leaving, HasReceipt, HasNoReceipt, sealed, synced, pending_sections, has_pending, is_marked, no_files, oldest_asks, with_oldest, floor_asks, trim_asks, clear_asks};
 
     /// A run that has no section yet, over a disk that was recovered, with this number in its lsn file.
     pub fn start(alloc: Global, names: Vec<Name>, limit: u64, last: u64) -> Result<Log, NoMemory>
@@ -64,6 +64,7 @@ impl Log {
         requires last { last ≤ 2 ^ 63 }
         requires names { AreDatabases names.items }
         ensures sound { IfOk result (λ log. IsSound log) }
+        ensures goes { IfOk result (λ log. GoesOn log) }
         ensures begun { IfOk result (λ log. IsBegun names.items last log) }
         ensures journal { IfOk result (λ log. log.journal ≡ no_files limit) }
         ensures kept { IfOk result (λ log. (files : Files) (u : Told) → IsRecovered the_format the_names files last u → IsKept u (new_story files last) at_first log u) }
@@ -178,10 +179,13 @@ impl Log {
     /// Writes the oldest pending section behind the journal's last and syncs it. It answers false exactly where none is pending.
     pub fn log<D: Disk>(&mut self, disk: &mut D) -> Result<bool, Device>
         requires sound { IsSound self.old }
+        requires goes { GoesOn self.old }
         ensures answer { IfOk result (λ logged. logged ≡ has_pending self.old) }
-        ensures sound { OnOk result (IsSound self.new) }
-        ensures run { OnOk result (KeepsRun self.old self.new) }
+        ensures sound { IsSound self.new }
+        ensures goes { OnOk result (GoesOn self.new) }
+        ensures run { KeepsRun self.old self.new }
         ensures counts { IfOk result (λ logged. HasLogged (if logged then 1 else 0) self.old self.new) }
+        ensures unmoved { OnErr result (KeepsCounts self.old self.new) }
         ensures receipts { IfOk result (λ logged. self.new.receipts.items ≡ self.old.receipts.items ++ (if logged then D.moment disk.new ∷ [] else [])) }
         ensures journal { OnOk result (self.new.journal ≡ with_oldest self.old.journal (pending_sections self.old)) }
         ensures made { OnOk result (Makes (oldest_asks self.old.journal (pending_sections self.old)) (D.told disk.old) (D.told disk.new)) }
@@ -207,10 +211,13 @@ impl Log {
     // Writes and syncs the oldest pending section.
     fn log_next<D: Disk>(&mut self, disk: &mut D) -> Result<(), Device>
         requires sound { IsSound self.old }
+        requires goes { GoesOn self.old }
         requires pending { has_pending self.old ≡ true }
-        ensures sound { OnOk result (IsSound self.new) }
-        ensures run { OnOk result (KeepsRun self.old self.new) }
+        ensures sound { IsSound self.new }
+        ensures goes { OnOk result (GoesOn self.new) }
+        ensures run { KeepsRun self.old self.new }
         ensures counts { OnOk result (HasLogged 1 self.old self.new) }
+        ensures unmoved { OnErr result (KeepsCounts self.old self.new) }
         ensures receipts { OnOk result (self.new.receipts.items ≡ self.old.receipts.items ++ D.moment disk.new ∷ []) }
         ensures journal { OnOk result (self.new.journal ≡ with_oldest self.old.journal (pending_sections self.old)) }
         ensures made { OnOk result (Makes (oldest_asks self.old.journal (pending_sections self.old)) (D.told disk.old) (D.told disk.new)) }
@@ -232,12 +239,15 @@ impl Log {
     /// already, and answers how many bytes were written at ranges. Nothing is synced.
     pub fn flush<D: Disk>(&mut self, disk: &mut D, db: usize, upto: u64) -> Result<u64, Device>
         requires sound { IsSound self.old }
+        requires goes { GoesOn self.old }
         requires db { db < length self.old.names.items }
         requires synced { upto ≤ self.old.last + synced self.old }
         ensures bytes { IfOk result (λ bytes. bytes ≡ flushed_bytes (get_or self.old.names.items db []) (unflushed self.old db upto)) }
-        ensures sound { OnOk result (IsSound self.new) }
-        ensures run { OnOk result (KeepsRun self.old self.new) }
+        ensures sound { IsSound self.new }
+        ensures goes { OnOk result (GoesOn self.new) }
+        ensures run { KeepsRun self.old self.new }
         ensures counts { OnOk result (HasFlushed db upto self.old self.new) }
+        ensures unmoved { OnErr result (KeepsCounts self.old self.new) }
         ensures journal { OnOk result (self.new.journal ≡ self.old.journal) }
         ensures made { OnOk result (Makes (flush_asks self.old db upto) (D.told disk.old) (D.told disk.new)) }
         ensures kept { OnOk result (Keeps self.old self.new (D.told disk.old) (D.told disk.new)) }
@@ -265,10 +275,13 @@ impl Log {
     /// Syncs each file that a database may have. The floor is then the greatest number up to which each database is flushed.
     pub fn sync_data<D: Disk>(&mut self, disk: &mut D) -> Result<(), Device>
         requires sound { IsSound self.old }
+        requires goes { GoesOn self.old }
         ensures floor { OnOk result (IsFloor self.new.floor self.old) }
-        ensures sound { OnOk result (IsSound self.new) }
-        ensures run { OnOk result (KeepsRun self.old self.new) }
+        ensures sound { IsSound self.new }
+        ensures goes { OnOk result (GoesOn self.new) }
+        ensures run { KeepsRun self.old self.new }
         ensures counts { OnOk result (HasSynced self.old self.new) }
+        ensures unmoved { OnErr result (KeepsCounts self.old self.new) }
         ensures journal { OnOk result (self.new.journal ≡ self.old.journal) }
         ensures made { OnOk result (Makes (sync_asks (all_files self.old.names.items)) (D.told disk.old) (D.told disk.new)) }
         ensures kept { OnOk result (Keeps self.old self.new (D.told disk.old) (D.told disk.new)) }
@@ -299,9 +312,12 @@ impl Log {
     /// Writes the floor's number into the lsn file and syncs it, where it isn't there yet.
     pub fn mark_lsn<D: Disk>(&mut self, disk: &mut D) -> Result<(), Device>
         requires sound { IsSound self.old }
-        ensures sound { OnOk result (IsSound self.new) }
-        ensures run { OnOk result (KeepsRun self.old self.new) }
+        requires goes { GoesOn self.old }
+        ensures sound { IsSound self.new }
+        ensures goes { OnOk result (GoesOn self.new) }
+        ensures run { KeepsRun self.old self.new }
         ensures counts { OnOk result (HasMarked self.old self.new) }
+        ensures unmoved { OnErr result (KeepsCounts self.old self.new) }
         ensures still { self.old.mark ≡ self.old.floor → D.told disk.new ≡ D.told disk.old }
         ensures journal { OnOk result (self.new.journal ≡ self.old.journal) }
         ensures made { OnOk result (Makes (floor_asks self.old) (D.told disk.old) (D.told disk.new)) }
@@ -319,9 +335,12 @@ impl Log {
     /// Removes, oldest first, each of the journal's files but the last whose sections are all marked.
     pub fn trim<D: Disk>(&mut self, disk: &mut D) -> Result<(), Device>
         requires sound { IsSound self.old }
-        ensures sound { OnOk result (IsSound self.new) }
-        ensures run { OnOk result (KeepsRun self.old self.new) }
+        requires goes { GoesOn self.old }
+        ensures sound { IsSound self.new }
+        ensures goes { OnOk result (GoesOn self.new) }
+        ensures run { KeepsRun self.old self.new }
         ensures counts { OnOk result (KeepsCounts self.old self.new) }
+        ensures unmoved { OnErr result (KeepsCounts self.old self.new) }
         ensures trimmed { OnOk result (HasTrimmed self.old self.new) }
         ensures made { OnOk result (Makes (trim_asks self.old) (D.told disk.old) (D.told disk.new)) }
         ensures kept { OnOk result (Keeps self.old self.new (D.told disk.old) (D.told disk.new)) }
@@ -335,10 +354,13 @@ impl Log {
     /// Removes the journal's files, all of whose sections are marked.
     pub fn clear<D: Disk>(&mut self, disk: &mut D) -> Result<(), Device>
         requires sound { IsSound self.old }
+        requires goes { GoesOn self.old }
         requires marked { is_marked self.old ≡ true }
-        ensures sound { OnOk result (IsSound self.new) }
-        ensures run { OnOk result (KeepsRun self.old self.new) }
+        ensures sound { IsSound self.new }
+        ensures goes { OnOk result (GoesOn self.new) }
+        ensures run { KeepsRun self.old self.new }
         ensures counts { OnOk result (KeepsCounts self.old self.new) }
+        ensures unmoved { OnErr result (KeepsCounts self.old self.new) }
         ensures cleared { OnOk result (HasCleared self.new) }
         ensures made { OnOk result (Makes (clear_asks self.old) (D.told disk.old) (D.told disk.new)) }
         ensures kept { OnOk result (Keeps self.old self.new (D.told disk.old) (D.told disk.new)) }

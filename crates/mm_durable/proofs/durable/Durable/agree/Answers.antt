@@ -5,7 +5,7 @@ pub returns-clause-same : goal.returns-clause-same
 returns-clause-same g c = record { run = run_same c.args.self.now.log; same_taken = c.agree.ensures.same }
 
 pub returns-clause-orderly : goal.returns-clause-orderly
-returns-clause-orderly g c = orderly c.args.self.now _ (record { run = run_same c.args.self.now.log; same_taken = c.agree.ensures.same }) c.requires.orderly c.requires.orderly.sound
+returns-clause-orderly g c = orderly c.args.self.now _ (record { run = run_same c.args.self.now.log; same_taken = c.agree.ensures.same }) c.requires.orderly c.requires.orderly.sound c.requires.orderly.goes
 
 pub returns-clause-kept : goal.returns-clause-kept
 returns-clause-kept g c = idles c.args.self.now.log c.args.self.now.intake _ c.requires.orderly.sound c.agree.ensures.same _

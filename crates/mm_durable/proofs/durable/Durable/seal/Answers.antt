@@ -8,6 +8,7 @@ use Rattle.mm_durable.specs.Log.{HasMore, IsKept, sealed}
 use Rattle.mm_durable.specs.Intake.{lists}
 use Rattle.mm_durable.specs.Durable.{next_section}
 use Rattle.mm_durable.proofs.Sealed.{section_room, parts_room, section_as, can_next, own_next, few_next, next_comes, next_images, intake_next, sealed_more, images_moved, intake_moved}
+use Rattle.mm_durable.proofs.Serving.{goes_as}
 use Rattle.mm_durable.proofs.durable.Durable.seal.Goals as goal
 
 pub seal-requires : goal.seal-requires
@@ -47,6 +48,7 @@ returns-clause-orderly g c =
     let r = c.requires in
     record {
       sound = c.add.ensures.sound;
+      goes = λ e. goes_as old.log c.add.«new».self c.add.ensures.journal c.add.ensures.counts.receipts_kept (r.orderly.goes e);
       intake_is = intake_moved old.log.names.items c.add.«new».self.names.items (sealed old.log + 1) (sealed c.add.«new».self) c.seal.«new».self c.add.ensures.more.names (sealed_more old.log c.add.«new».self _ c.add.ensures.more)
           (intake_next old r.orderly r.ready r.closed c.seal.«new».self c.seal.ensures.feeds c.seal.ensures.seats r.entry);
     }

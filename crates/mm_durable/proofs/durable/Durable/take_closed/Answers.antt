@@ -35,6 +35,7 @@ returns-clause-orderly g c = λ short.
     let count = not_closed old.log old.intake r.orderly.sound r.orderly.intake_is full c.args.db.0 r.db r.once in
     record {
       sound = r.orderly.sound;
+      goes = r.orderly.goes;
       intake_is = takes old.log.names.items r.orderly.sound.names (sealed old.log) old.intake c.take_closed.«new».self r.orderly.intake_is c.args.db.0 r.db (g.O.Origin.given c.args.from.now) (g.O.Origin.given c.take_closed.«new».from) t mine (sym (ap length mine) ∙ count) full (seats_ready old r.orderly r.ready) (omega (arith, ap length t.more, length-append (g.O.Origin.given c.args.from.now) (t.item ∷ []), r.room, short));
     }
 
