@@ -13,17 +13,17 @@ use Rattle.mm_frames.specs.declared.rec_header.RecHeader.{RecHeader}
 use Rattle.mm_frames.specs.declared.deleted_header.DeletedHeader.{DeletedHeader}
 use Rattle.mm_frames.specs.declared.free_ends.FreeEnds.{FreeEnds}
 use Rattle.mm_links.specs.Links.{Place, has, once, first_of, last_of, next_in, IsLinked}
-use Rattle.mm_links.proofs.LinkLaws.{if_true, if_false, has_here, has_more, has_last, same_own, relinked}
+use Rattle.mm_links.proofs.LinkLaws.{if_true, if_false, has_here, has_more, has_last, same_own, same_not, relinked}
 use Rattle.mm_extents.specs.Heap.{Cell, extent, live, deleted, Heap}
 use Rattle.mm_extents.specs.Changes.{loc_or, ofs_or}
 use Rattle.mm_extents.specs.Files.{unused_in}
 use Rattle.mm_extents.specs.Tiling.{an_extent, a_block, outline, ground, IsTiled}
 use Rattle.mm_extents.specs.Chains.{ext_next, ext_prev, ExtentsStand}
-use Rattle.mm_extents.specs.FreeExtents.{HasFree}
-use Rattle.mm_extents.specs.Dropping.{AreFreed}
+use Rattle.mm_extents.specs.FreeExtents.{HasFree, without_links}
+use Rattle.mm_extents.specs.Dropping.{AreFreed, header_freed}
 use Rattle.mm_records.specs.Constants.{is_name}
 use Rattle.mm_records.specs.Shape.{Shape, list_for, rec_next, rec_prev}
-use Rattle.mm_records.specs.Stands.{Stands, RecordsStand, ListsStand, DetailsStand, IsRecord, IsDeleted, NamesEnds, walk, room_of, len_at}
+use Rattle.mm_records.specs.Stands.{Stands, RecordsStand, ListsStand, DetailsStand, IsRecord, IsDeleted, NamesEnds, walk, room_of, ext_len, len_at}
 use Rattle.mm_records.specs.Map.{ofs_of, extent_of, owner, live_room, live_at}
 use Rattle.mm_records.proofs.Freed.{name_is, name_own}
 use Rattle.mm_records.proofs.Bounds.{has_flat}
@@ -38,6 +38,10 @@ unlinked_none of next prev = record { no_twice = refl; behind = λ p h. absurd (
 
 one_extent : (x y : ExtentHeader) → Some (extent x) ≡ Some (extent y) → x ≡ y
 one_extent x y e = cc
+
+-- but for their links two extents are alike
+link_len : (x y : ExtentHeader) → without_links (Some (extent x)) ≡ without_links (Some (extent y)) → x.len ≡ y.len
+link_len x y e = ap ext_len e
 
 one_ofs : (x y : ℕ) → pos x ≡ pos y → x ≡ y
 one_ofs x y e = cc
@@ -243,6 +247,12 @@ module _ (image now : Image) (free name : List ℕ) (s : Shape) (st : Stands ima
 
   -- ---- the lists
 
+  cell_stays : (m : List ℕ) (i : ℕ) (o : Option Place) (q : Place) → m ≢ name → IsDeleted s.heap m i o q → th q ≡ s.heap q
+  cell_stays m i o q nn d =
+      let block : ground s.heap q ≡ Some (a_block d.h.extent_ofs d.h.length_with_headers (16 + length d.rest)) = ap (λ (c : Option Cell). option_map outline c) d.there in
+      a.block_stays image now free name s st ends isnt th f fr q d.h.extent_ofs d.h.length_with_headers (16 + length d.rest) d.of_extent.0 d.of_extent.1 block d.of_extent.2 d.of_extent.3
+      (λ z. nn (sym d.of_extent.4 ∙ z))
+
   list_stays : (m : List ℕ) (i : ℕ) (q : Place) → m ≢ name → IsDeleted s.heap m i (next_in (s.lists m i) q) q → IsDeleted th m i (next_in (s.lists m i) q) q
   list_stays m i q nn d =
       let block : ground s.heap q ≡ Some (a_block d.h.extent_ofs d.h.length_with_headers (16 + length d.rest)) = ap (λ (o : Option Cell). option_map outline o) d.there in
@@ -252,7 +262,7 @@ module _ (image now : Image) (free name : List ℕ) (s : Shape) (st : Stands ima
       record {
         h = d.h;
         rest = d.rest;
-        there = a.block_stays image now free name s st ends isnt th f fr q d.h.extent_ofs d.h.length_with_headers (16 + length d.rest) d.of_extent.0 hh block d.of_extent.2 d.of_extent.3 nn' ∙ d.there;
+        there = cell_stays m i (next_in (s.lists m i) q) q nn d ∙ d.there;
         names_next = d.names_next;
         right_list = d.right_list;
         of_extent = (d.of_extent.0, hh, d.of_extent.2, a.extent_stays image now free name s st ends isnt th f fr (q.0, d.of_extent.0) hh d.of_extent.3 nf nn' ∙ d.of_extent.3, d.of_extent.4);
@@ -348,6 +358,32 @@ module _ (image now : Image) (free name : List ℕ) (s : Shape) (st : Stands ima
       let home = a.extent_stays image now free name s st ends isnt th f fr (p.0, o.a) o.hh o.there o.isnt_free nn' in
       live_made new m p l.h room o.a o.hh (here ∙ l.here) o.ext (home ∙ o.there) o.named
 
+  -- ---- the layout
+
+  deleted_stays : (m : List ℕ) (i : ℕ) (q : Place) → m ≢ name → has (s.lists m i) q ≡ true → th q ≡ s.heap q
+  deleted_stays m i q nn on = cell_stays m i (next_in (s.lists m i) q) q nn (st.lists.on_list m i q on)
+
+  -- a free extent keeps its length
+  free_len : (e : Place) (h : ExtentHeader) → s.heap e ≡ Some (extent h) → text_in h.namespace ≡ free → (g : ExtentHeader) × (th e ≡ Some (extent g)) × (g.len ≡ h.len)
+  free_len e h i z =
+      let x = a.still_free image now free name s st ends isnt th f fr e (subst (λ (m : List ℕ). has (s.extents m) e ≡ true) z (st.extents.all e h i)) in
+      let o = fr.others e (λ p g n on here l. (same_not p e (λ k. isnt (sym (own p g on here) ∙ ap (λ (y : ExtentHeader). text_in y.namespace) (one_extent g h (sym here ∙ ap s.heap k ∙ i)) ∙ z)), extent_off s.heap (unused_in image) free st.tiled p g n here l e h i)) in
+      (x.0, x.1, link_len x.0 h (ap without_links (sym x.1) ∙ o ∙ ap without_links i))
+    where
+      own : (p : Place) (g : ExtentHeader) → has ps p ≡ true → s.heap p ≡ Some (extent g) → text_in g.namespace ≡ name
+      own p g on here = (let x = st.extents.on_chain name p on in ap (λ (y : ExtentHeader). text_in y.namespace) (one_extent g x.0 (sym here ∙ x.1)) ∙ x.2)
+
+  lengths_stay : (e : Place) (h : ExtentHeader) → s.heap e ≡ Some (extent h) → (g : ExtentHeader) × (th e ≡ Some (extent g)) × (g.len ≡ h.len)
+  lengths_stay e h i = elim (cases_Bool (is_name (text_in h.namespace) name)) [
+    | inl y ↦
+        let x = fr.freed e h (subst (λ (m : List ℕ). has (s.extents m) e ≡ true) (name_is (text_in h.namespace) name y) (st.extents.all e h i)) i in
+        (record (header_freed e free h.len x.1.0) { xnext = x.0 }, x.1.1, refl)
+    | inr n ↦ elim (cases_Bool (is_name (text_in h.namespace) free)) [
+      | inl y ↦ free_len e h i (name_is (text_in h.namespace) free y)
+      | inr k ↦ (h, a.extent_stays image now free name s st ends isnt th f fr e h i (isnt_name (text_in h.namespace) free k) (isnt_name (text_in h.namespace) name n) ∙ i, refl)
+    ]
+  ]
+
   pub is_dropped : IsDropped s new free name
   is_dropped = record {
     gone = λ p. none_at p (live_at new name p) refl;
@@ -355,6 +391,9 @@ module _ (image now : Image) (free name : List ℕ) (s : Shape) (st : Stands ima
     extents = λ m. refl;
     records = λ e. refl;
     lists = λ m i. refl;
+    lengths = lengths_stay;
+    live_stay = λ e p off on. record_stays e p off (st.records.on_chain e p on);
+    deleted_stay = deleted_stays;
   }
     where
       none_at : (p : Place) (o : Option (List ℕ)) → live_at new name p ≡ o → live_at new name p ≡ None
