@@ -10,12 +10,11 @@ use Rattle.mm_crash.specs.Story.{Story, state}
 use Rattle.mm_journal.specs.Real.{disk_name}
 use Rattle.mm_journal.proofs.Real.{the_format, the_names}
 use Rattle.mm_items.specs.Given.{Taken, images_of}
-use Rattle.mm_prefix.specs.Prefix.{Numbers}
+use Rattle.mm_prefix.specs.Prefix.{Numbers, IsPrefix}
 use Rattle.mm_prefix.specs.Chain.{AreLeft, last_image}
-use Rattle.mm_prefix.proofs.Laws.{leaves_prefix}
-use Rattle.mm_durable.specs.Names.{db_of}
+use Rattle.mm_prefix.proofs.Laws.{same_recovery}
 use Rattle.mm_durable.specs.Intake.{is_ours, first_items}
-use Rattle.mm_durable.specs.Durable.{HasImages, IsServed}
+use Rattle.mm_durable.specs.Durable.{HasImages, IsSafe}
 use Rattle.mm_durable.specs.Laws.{IsLeft, RecoversItems}
 use Rattle.mm_durable.specs.declared.log.Log.{Log}
 use Rattle.mm_durable.proofs.Flushes.{names_are}
@@ -27,16 +26,16 @@ state_reads names items story has k le n is f file =
     ap (λ (name : List ℕ → ℕ → List ℕ). over (entries_of name (take k story.sections)) (disk_name n f) (story.base (disk_name n f))) names_are
     ∙ (has.laid k le).reads n is f file
 
-pub recovers_items : (t u : Told) (story : Story) (history : ℕ → Numbers) (log : Log) (items : Taken) → IsServed t u story history log items → (m : ℕ) (image : Image) → IsLeft t u m image → (images : List Image) → AreLeft the_format the_names image images
+pub recovers_items : (t u : Told) (story : Story) (history : ℕ → Numbers) (log : Log) (items : Taken) → IsSafe t u story history log items → (m : ℕ) (image : Image) → IsLeft t u m image → (images : List Image) → AreLeft the_format the_names image images
     → RecoversItems log.names.items items (history m).synced (last_image image images)
 recovers_items t u story history log items k m image left images are =
-    let d = k.log_is in
-    let p = leaves_prefix the_format the_names (db_of log.names.items) t story d.counts history log.receipts.items u d.durable m image left.since left.left left.chance images are in
+    let p : IsPrefix the_format the_names story (history m) image = k.leaves.each m image left.since left.left left.chance in
+    let w = p.whole in
     record {
-      to = p.to;
-      no_less = p.no_less;
-      no_more = p.no_more;
-      files = state the_names story p.to;
-      recovers = p.recovers;
-      reads = λ n is f file. state_reads log.names.items items story k.images p.to p.there n is f file;
+      to = w.to;
+      no_less = w.no_less;
+      no_more = w.no_more;
+      files = state the_names story w.to;
+      recovers = same_recovery the_format the_names image images (state the_names story w.to) are w.recovers;
+      reads = λ n is f file. state_reads log.names.items items story k.images w.to w.there n is f file;
     }

@@ -2,18 +2,18 @@
 use Rattle.std.proofs.Common.{◌≡◌, inl, inr, ℕ, ◌^◌, ◌<◌, ◌≤◌, ◌==◌, true, false, true≢false, List, [], length, get_or, Option, Some, refl, sym, ◌∙◌, ap, subst, arith}
 use Rattle.std.specs.Prelude.{vec_capacity}
 use Rattle.std.proofs.lemmas.Bool.Decides.{nat_tests}
-use Rattle.std.proofs.lemmas.List.{length-map}
+use Rattle.std.proofs.lemmas.List.{length-map, length-drop}
 use Rattle.mm_outside.specs.Told.{Told}
 use Rattle.mm_ranges.specs.declared.part.Closed.{Closed}
 use Rattle.mm_tie.specs.Ends.{taker_ring}
 use Rattle.mm_jfiles.specs.Files.{Files, next_number}
 use Rattle.mm_crash.specs.Story.{Story}
-use Rattle.mm_prefix.specs.Prefix.{Numbers, since}
+use Rattle.mm_prefix.specs.Prefix.{Numbers, AreReceipts, since}
 use Rattle.mm_items.specs.Given.{Taken}
 use Rattle.mm_durable.specs.Names.{has_name}
-use Rattle.mm_durable.specs.Log.{IsSound, GoesOn, KeepsRun, Keeps, Leaving, numbers, sealed}
+use Rattle.mm_durable.specs.Log.{IsSound, GoesOn, KeepsRun, KeepsCounts, Keeps, Leaving, numbers, sealed}
 use Rattle.mm_durable.specs.Intake.{by_name, lists, AreRising, AreSeated, AreAllOrNone, HasEntry, IsIntake, SameTaken}
-use Rattle.mm_durable.specs.Durable.{HasImages, IsServed, IsOrderly, LeavesOff, SameItems}
+use Rattle.mm_durable.specs.Durable.{HasImages, IsServed, IsSafe, IsOrderly, SameItems, items_of}
 use Rattle.mm_durable.specs.declared.log.Log.{Log}
 use Rattle.mm_durable.proofs.Marks.{idle}
 use Rattle.mm_durable.specs.declared.intake.Intake.{Intake}
@@ -38,6 +38,29 @@ images_as old new a b run same story is =
     subst (λ (l : List (List ℕ)). HasImages l (by_name new.names.items (lists b)) story) (sym run.names)
     (subst (λ (i : Taken). HasImages old.names.items i story) (sym (items_as old new a b run same)) is)
 
+-- a side that goes on is safe
+pub served_safe : (t u : Told) (story : Story) (history : ℕ → Numbers) (log : Log) (items : Taken) → IsSound log → IsServed t u story history log items → IsSafe t u story history log items
+served_safe t u story history log items sound k =
+    let there : log.dropped ≤ length story.sections = omega (arith, sound.kept, sound.floor_synced, k.log_is.durable.each, k.log_is.durable.rest.s_there) in
+    record {
+      leaves = k.log_is.durable.leaves;
+      given = k.log_is.durable.given;
+      images = k.images;
+      count = omega (arith, there, ap length k.log_is.sections, length-drop log.dropped story.sections);
+    }
+
+-- and it is with more sections sealed
+pub safe_as : (t u : Told) (story : Story) (history : ℕ → Numbers) (old new : Log) (a b : Intake) → new.names.items ≡ old.names.items → lists b ≡ lists a → new.receipts.items ≡ old.receipts.items → sealed old ≤ sealed new
+    → IsSafe t u story history old (by_name old.names.items (lists a)) → IsSafe t u story history new (by_name new.names.items (lists b))
+safe_as t u story history old new a b names taken receipts more is = record {
+  leaves = is.leaves;
+  given = subst (λ (l : List ℕ). AreReceipts l history) (sym receipts) is.given;
+  images =
+      subst (λ (l : List (List ℕ)). HasImages l (by_name l (lists b)) story) (sym names)
+      (subst (λ (l : List (List Closed)). HasImages old.names.items (by_name old.names.items l) story) (sym taken) is.images);
+  count = omega (arith, is.count, more);
+}
+
 -- what `Serves` says of the logs and of what was taken
 pub serves : (old new : Log) (a b : Intake) → KeepsRun old new → SameTaken a b → (before after : Option Told) → Keeps old new before after
     → (t u : Told) (story : Story) (history : ℕ → Numbers) → before ≡ Some u → IsServed t u story history old (by_name old.names.items (lists a))
@@ -47,8 +70,14 @@ serves old new a b run same before after keeps t u story history is k =
     (on.0, on.1, record { log_is = on.2; images = images_as old new a b run same story k.images })
 
 -- a device call that is stopped
-pub leaves_off : {D : Type 0} (old : Durable D) (before after : Option Told) → Leaving old.log before after → LeavesOff old before after
-leaves_off old before after left t u story history is k = left t u story history is k.log_is
+pub leaves_off : {D : Type 0} (old : Durable D) (new : Log) (b : Intake) → IsSound old.log → KeepsRun old.log new → SameTaken old.intake b → KeepsCounts old.log new → (before after : Option Told) → Leaving old.log before after
+    → (t u : Told) (story : Story) (history : ℕ → Numbers) → before ≡ Some u → IsServed t u story history old.log (items_of old)
+    → (v : Told) × (after ≡ Some v) × IsSafe t v story history new (by_name new.names.items (lists b))
+leaves_off old new b sound run same counts before after left t u story history is k =
+    let on = left t u story history is k.log_is in
+    let was = served_safe t u story history old.log (items_of old) sound k in
+    let now = safe_as t u story history old.log new old.intake b run.names same.lists_same counts.receipts_kept (omega (arith, sealed_as old.log new run)) was in
+    (on.0, on.1, record { leaves = on.2; given = now.given; images = now.images; count = now.count })
 
 pub taken_same : (i : Intake) → SameTaken i i
 taken_same i = record { lists_same = refl; rooms_same = refl; rings_same = refl; sorted = refl; ranks = refl; seats = refl; parts = refl; space = refl }

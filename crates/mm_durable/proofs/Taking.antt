@@ -230,7 +230,7 @@ module _ (names : List (List ℕ)) (dbs : AreDatabases names) (sealed : ℕ) (ol
   }
 
   -- and each image is as it was
-  pub images_kept : (story : Story) → length story.sections ≡ sealed → HasImages names (by_name names (lists old)) story → HasImages names (by_name names (lists new)) story
+  pub images_kept : (story : Story) → length story.sections ≤ sealed → HasImages names (by_name names (lists old)) story → HasImages names (by_name names (lists new)) story
   images_kept story all has = record {
     laid = λ k le. let here = has.laid k le in record {
       once = here.once;

@@ -10,7 +10,7 @@ use Rattle.mm_crash.specs.Story.{Story, with_section}
 use Rattle.mm_section.specs.declared.section.Section.{Section}
 use Rattle.mm_journal.specs.Real.{disk_name}
 use Rattle.mm_journal.proofs.Real.{the_format, the_names}
-use Rattle.mm_prefix.specs.Prefix.{Numbers, PrefixAt, since}
+use Rattle.mm_prefix.specs.Prefix.{Numbers, PrefixAt, AreReceipts, since}
 use Rattle.mm_items.specs.Files.{AreLaid}
 use Rattle.mm_items.specs.Given.{Taken, images_of, sealed_parts}
 use Rattle.mm_durable.specs.Log.{IsSound, GoesOn, IsKept, KeepsRun, LetsGo, numbers, sealed}
@@ -31,6 +31,15 @@ ReadItems files names items = (n : List ℕ) → is_ours names n ≡ true → (f
 pub record IsServed (t u : Told) (story : Story) (history : ℕ → Numbers) (log : Log) (items : Taken) : Type 0 where
   pub log_is : IsKept t story history log u
   pub images : HasImages log.names.items items story
+
+-- What is known of a crash, also where a call was stopped: each image that a crash leaves, at each moment since the run began, is a prefix of
+-- the sections that were sealed then; a section with a receipt is among those synced at each later moment; and what the sections make of the
+-- files is what the items make.
+pub record IsSafe (t u : Told) (story : Story) (history : ℕ → Numbers) (log : Log) (items : Taken) : Type 0 where
+  pub leaves : Leaves (PrefixAt the_format the_names story history) t u
+  pub given : AreReceipts log.receipts.items history
+  pub images : HasImages log.names.items items story
+  pub count : length story.sections ≤ sealed log
 
 module _ {D : Type 0} where
   -- the items of each database by its name
@@ -62,6 +71,10 @@ module _ {D : Type 0} where
   abbrev pub StillServes : Durable D → Durable D → Type 0
   StillServes old new = (t u : Told) (story : Story) (history : ℕ → Numbers) → IsServed t u story history old.log (items_of old) → IsServed t u story history new.log (items_of new)
 
+  -- what is known of a crash stays
+  abbrev pub StaysSafe : Durable D → Durable D → Type 0
+  StaysSafe old new = (t u : Told) (story : Story) (history : ℕ → Numbers) → IsSafe t u story history old.log (items_of old) → IsSafe t u story history new.log (items_of new)
+
   -- the same with a section more
   abbrev pub ServesSealed : Durable D → Section → Durable D → Type 0
   ServesSealed old section new = (t u : Told) (story : Story) (history : ℕ → Numbers) → IsServed t u story history old.log (items_of old) → IsServed t u (with_section story section) history new.log (items_of new)
@@ -72,9 +85,9 @@ module _ {D : Type 0} where
       → (v : Told) × (after ≡ Some v) × IsServed t v story (since (length v.calls) (numbers new.log) history) new.log (items_of new)
 
   -- a call that is stopped leaves nothing else either, with the numbers as they were
-  abbrev pub LeavesOff : Durable D → Option Told → Option Told → Type 0
-  LeavesOff old before after = (t u : Told) (story : Story) (history : ℕ → Numbers) → before ≡ Some u → IsServed t u story history old.log (items_of old)
-      → (v : Told) × (after ≡ Some v) × Leaves (PrefixAt the_format the_names story history) t v
+  abbrev pub LeavesOff : Durable D → Durable D → Option Told → Option Told → Type 0
+  LeavesOff old new before after = (t u : Told) (story : Story) (history : ℕ → Numbers) → before ≡ Some u → IsServed t u story history old.log (items_of old)
+      → (v : Told) × (after ≡ Some v) × IsSafe t v story history new.log (items_of new)
 
   -- the same, but for the oldest sections, which all data files have, synced
   pub record SameButGone (old new : Durable D) : Type 0 where

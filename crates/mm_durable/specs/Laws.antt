@@ -15,7 +15,7 @@ use Rattle.mm_prefix.specs.Chain.{AreLeft, last_image, HasPrefix, HoldsSection}
 use Rattle.mm_items.specs.Given.{Taken, images_of}
 use Rattle.mm_durable.specs.Log.{IsKept, HasCleared, synced}
 use Rattle.mm_durable.specs.Intake.{is_ours, first_items}
-use Rattle.mm_durable.specs.Durable.{IsServed, items_of}
+use Rattle.mm_durable.specs.Durable.{IsServed, IsSafe, items_of}
 use Rattle.mm_durable.specs.declared.log.Log.{Log}
 use Rattle.mm_durable.specs.declared.durable.Durable.{Durable}
 
@@ -70,9 +70,13 @@ pub record RecoversGroup (names : List (List ℕ)) (items : Taken) (group : ℕ)
 
 -- each group whose receipt is of an earlier moment is in what is recovered; group k has the k-th section of the run
 abbrev pub HoldsGroups : {D : Type 0} → Durable D → Type 0
-HoldsGroups d = (t u : Told) (story : Story) (history : ℕ → Numbers) → IsServed t u story history d.log (items_of d) → (k : ℕ) → k < synced d.log → (m : ℕ) (image : Image) → get_or d.log.receipts.items k 0 < m → IsLeft t u m image → (images : List Image) → AreLeft the_format the_names image images
+HoldsGroups d = (t u : Told) (story : Story) (history : ℕ → Numbers) → IsSafe t u story history d.log (items_of d) → (k : ℕ) → k < synced d.log → (m : ℕ) (image : Image) → get_or d.log.receipts.items k 0 < m → IsLeft t u m image → (images : List Image) → AreLeft the_format the_names image images
     → RecoversGroup d.log.names.items (items_of d) (k + 1) (last_image image images)
 
 abbrev pub ServesItems : {D : Type 0} → Durable D → Type 0
-ServesItems d = (t u : Told) (story : Story) (history : ℕ → Numbers) → IsServed t u story history d.log (items_of d) → (m : ℕ) (image : Image) → IsLeft t u m image → (images : List Image) → AreLeft the_format the_names image images
+ServesItems d = (t u : Told) (story : Story) (history : ℕ → Numbers) → IsSafe t u story history d.log (items_of d) → (m : ℕ) (image : Image) → IsLeft t u m image → (images : List Image) → AreLeft the_format the_names image images
     → RecoversItems d.log.names.items (items_of d) (history m).synced (last_image image images)
+
+-- what is known of a side that goes on is known of a crash
+abbrev pub ServedIsSafe : {D : Type 0} → Durable D → Type 0
+ServedIsSafe d = (t u : Told) (story : Story) (history : ℕ → Numbers) → IsServed t u story history d.log (items_of d) → IsSafe t u story history d.log (items_of d)

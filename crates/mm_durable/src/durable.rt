@@ -16,7 +16,7 @@ ghost use Rattle.mm_durable.specs.Names.{AreDatabases, all_files};
 ghost use Rattle.mm_durable.specs.Log.{IsSound, GoesOn, IsKept, IsBegun, IsFloor, KeepsRun, KeepsCounts, HasLogged, HasFlushed, HasSynced, HasMarked, HasTrimmed, HasCleared, HasMore, HasReceipt, HasNoReceipt, sealed, synced, pending_sections, has_pending, is_marked, no_files, oldest_asks, with_oldest, floor_asks, trim_asks, clear_asks};
 ghost use Rattle.mm_durable.specs.Intake.{IsIntake, IsOwn, HasTaken, HasEntry, KeepsFeeds, GivesNext, lists, rooms, rings};
 ghost use Rattle.mm_durable.specs.Flushed.{flushed_bytes, unflushed, flush_asks};
-ghost use Rattle.mm_durable.specs.Durable.{IsOrderly, IsServed, ReadItems, Serves, StillServes, ServesSealed, LeavesOff, SameItems, SameButGone, AllClosed, items_of, is_ready, has_closed, next_section};
+ghost use Rattle.mm_durable.specs.Durable.{IsOrderly, IsServed, ReadItems, Serves, StillServes, StaysSafe, ServesSealed, LeavesOff, SameItems, SameButGone, AllClosed, items_of, is_ready, has_closed, next_section};
 
 use crate::intake::Intake;
 use crate::log::{Log, Receipt};
@@ -116,6 +116,7 @@ impl<D: Disk> Durable<D> {
         ensures feeds { KeepsFeeds self.old.intake self.new.intake }
         ensures journal { self.new.log.journal ≡ self.old.log.journal }
         ensures kept { StillServes self.old self.new }
+        ensures safe { StaysSafe self.old self.new }
         ensures ended { self.new.ended ≡ self.old.ended }
         ensures disk { self.new.disk ≡ self.old.disk }
     {
@@ -132,6 +133,7 @@ impl<D: Disk> Durable<D> {
         ensures shared { (O.viewed from.old).shared ≡ image_of (up_to (O.applied_to from.old) (O.given from.old)) }
         ensures orderly { IsOrderly self.new }
         ensures kept { Serves self.old self.new (D.told self.old.disk) (D.told self.new.disk) }
+        ensures safe { StaysSafe self.old self.new }
         ensures same { SameItems self.old self.new }
         ensures log { self.new.log ≡ self.old.log }
         ensures ended { self.new.ended ≡ self.old.ended }
@@ -162,6 +164,7 @@ impl<D: Disk> Durable<D> {
         ensures orderly { O.most from.old ≤ 2 ^ 32 → IsOrderly self.new }
         ensures ready { is_ready self.new ≡ true }
         ensures kept { StillServes self.old self.new }
+        ensures safe { StaysSafe self.old self.new }
         ensures log { self.new.log ≡ self.old.log }
         ensures ended { self.new.ended ≡ self.old.ended }
         ensures disk { self.new.disk ≡ self.old.disk }
@@ -183,6 +186,7 @@ impl<D: Disk> Durable<D> {
         ensures feeds { KeepsFeeds self.old.intake self.new.intake }
         ensures journal { self.new.log.journal ≡ self.old.log.journal }
         ensures kept { ServesSealed self.old (next_section self.old) self.new }
+        ensures safe { StaysSafe self.old self.new }
         ensures ended { self.new.ended ≡ self.old.ended }
         ensures disk { self.new.disk ≡ self.old.disk }
     {
@@ -205,7 +209,7 @@ impl<D: Disk> Durable<D> {
         ensures journal { OnOk result (self.new.log.journal ≡ with_oldest self.old.log.journal (pending_sections self.old.log)) }
         ensures made { OnOk result (Makes (oldest_asks self.old.log.journal (pending_sections self.old.log)) (D.told self.old.disk) (D.told self.new.disk)) }
         ensures kept { OnOk result (Serves self.old self.new (D.told self.old.disk) (D.told self.new.disk)) }
-        ensures left { OnErr result (LeavesOff self.old (D.told self.old.disk) (D.told self.new.disk)) }
+        ensures left { OnErr result (LeavesOff self.old self.new (D.told self.old.disk) (D.told self.new.disk)) }
         ensures going { OnOk result (self.new.ended ≡ false) }
         ensures ended { OnErr result (self.new.ended ≡ true) }
         ensures cause { HasCause Fault (D.faults self.old.disk) (D.faults self.new.disk) result }
@@ -234,7 +238,7 @@ impl<D: Disk> Durable<D> {
         ensures journal { OnOk result (self.new.log.journal ≡ self.old.log.journal) }
         ensures made { OnOk result (Makes (flush_asks self.old.log db.0 (O.applied_to from.old)) (D.told self.old.disk) (D.told self.new.disk)) }
         ensures kept { OnOk result (Serves self.old self.new (D.told self.old.disk) (D.told self.new.disk)) }
-        ensures left { OnErr result (LeavesOff self.old (D.told self.old.disk) (D.told self.new.disk)) }
+        ensures left { OnErr result (LeavesOff self.old self.new (D.told self.old.disk) (D.told self.new.disk)) }
         ensures going { OnOk result (self.new.ended ≡ false) }
         ensures ended { OnErr result (self.new.ended ≡ true) }
         ensures cause { HasCause Fault (D.faults self.old.disk) (D.faults self.new.disk) result }
@@ -262,7 +266,7 @@ impl<D: Disk> Durable<D> {
         ensures journal { OnOk result (self.new.log.journal ≡ self.old.log.journal) }
         ensures made { OnOk result (Makes (sync_asks (all_files self.old.log.names.items)) (D.told self.old.disk) (D.told self.new.disk)) }
         ensures kept { OnOk result (Serves self.old self.new (D.told self.old.disk) (D.told self.new.disk)) }
-        ensures left { OnErr result (LeavesOff self.old (D.told self.old.disk) (D.told self.new.disk)) }
+        ensures left { OnErr result (LeavesOff self.old self.new (D.told self.old.disk) (D.told self.new.disk)) }
         ensures going { OnOk result (self.new.ended ≡ false) }
         ensures ended { OnErr result (self.new.ended ≡ true) }
         ensures cause { HasCause Fault (D.faults self.old.disk) (D.faults self.new.disk) result }
@@ -286,7 +290,7 @@ impl<D: Disk> Durable<D> {
         ensures journal { OnOk result (self.new.log.journal ≡ self.old.log.journal) }
         ensures made { OnOk result (Makes (floor_asks self.old.log) (D.told self.old.disk) (D.told self.new.disk)) }
         ensures kept { OnOk result (Serves self.old self.new (D.told self.old.disk) (D.told self.new.disk)) }
-        ensures left { OnErr result (LeavesOff self.old (D.told self.old.disk) (D.told self.new.disk)) }
+        ensures left { OnErr result (LeavesOff self.old self.new (D.told self.old.disk) (D.told self.new.disk)) }
         ensures going { OnOk result (self.new.ended ≡ false) }
         ensures ended { OnErr result (self.new.ended ≡ true) }
         ensures cause { HasCause Fault (D.faults self.old.disk) (D.faults self.new.disk) result }
@@ -308,7 +312,7 @@ impl<D: Disk> Durable<D> {
         ensures trimmed { OnOk result (HasTrimmed self.old.log self.new.log) }
         ensures made { OnOk result (Makes (trim_asks self.old.log) (D.told self.old.disk) (D.told self.new.disk)) }
         ensures kept { OnOk result (Serves self.old self.new (D.told self.old.disk) (D.told self.new.disk)) }
-        ensures left { OnErr result (LeavesOff self.old (D.told self.old.disk) (D.told self.new.disk)) }
+        ensures left { OnErr result (LeavesOff self.old self.new (D.told self.old.disk) (D.told self.new.disk)) }
         ensures going { OnOk result (self.new.ended ≡ false) }
         ensures ended { OnErr result (self.new.ended ≡ true) }
         ensures cause { HasCause Fault (D.faults self.old.disk) (D.faults self.new.disk) result }
@@ -331,7 +335,7 @@ impl<D: Disk> Durable<D> {
         ensures cleared { OnOk result (HasCleared self.new.log) }
         ensures made { OnOk result (Makes (clear_asks self.old.log) (D.told self.old.disk) (D.told self.new.disk)) }
         ensures kept { OnOk result (Serves self.old self.new (D.told self.old.disk) (D.told self.new.disk)) }
-        ensures left { OnErr result (LeavesOff self.old (D.told self.old.disk) (D.told self.new.disk)) }
+        ensures left { OnErr result (LeavesOff self.old self.new (D.told self.old.disk) (D.told self.new.disk)) }
         ensures going { OnOk result (self.new.ended ≡ false) }
         ensures ended { OnErr result (self.new.ended ≡ true) }
         ensures cause { HasCause Fault (D.faults self.old.disk) (D.faults self.new.disk) result }

@@ -1,6 +1,6 @@
 //! What a crash leaves of a run.
 
-ghost use Rattle.mm_durable.specs.Laws.{EachMomentIsPrefix, RecoversPrefix, HoldsAcknowledged, ServesItems, HoldsGroups, StandsNow};
+ghost use Rattle.mm_durable.specs.Laws.{EachMomentIsPrefix, RecoversPrefix, HoldsAcknowledged, ServesItems, HoldsGroups, StandsNow, ServedIsSafe};
 ghost use Rattle.mm_durable.specs.Durable.{IsOrderly};
 
 use crate::durable::Durable;
@@ -20,11 +20,12 @@ pub fn crashes_leave_a_prefix(log: &Log)
     let _ = log.names();
 }
 
-/// Of a durable side whose fact holds, where the disk tells and no torn record passes its check by chance: what a crash at any moment
-/// leaves is recovered to the files that the items of the groups give, up to one group that is the same for all databases: the last that
+/// Of a durable side whose fact holds, also of one that a stopped call has ended, where the disk tells and no torn record passes its check by
+/// chance: what a crash at any moment leaves is recovered to the files that the items of the groups give, up to one group that is the same for all databases: the last that
 /// was synced before that moment, or the one after it. However often recovery is stopped by a crash, the next one has the same. A group whose
 /// receipt is of an earlier moment is among them. The call does nothing.
 pub fn crashes_leave_items<D: Disk>(durable: &Durable<D>)
+    ensures safe { IsOrderly durable.now → ServedIsSafe durable.now }
     ensures items { ServesItems durable.now }
     ensures acknowledged { HoldsGroups durable.now }
 {

@@ -1,4 +1,5 @@
-use Rattle.mm_durable.proofs.Serving.{run_same, idles, orderly}
+use Rattle.std.proofs.Common.{refl, arith}
+use Rattle.mm_durable.proofs.Serving.{run_same, idles, orderly, safe_as}
 use Rattle.mm_durable.proofs.durable.Durable.agree.Goals as goal
 
 pub returns-clause-same : goal.returns-clause-same
@@ -9,3 +10,6 @@ returns-clause-orderly g c = orderly c.args.self.now _ (record { run = run_same 
 
 pub returns-clause-kept : goal.returns-clause-kept
 returns-clause-kept g c = idles c.args.self.now.log c.args.self.now.intake _ c.requires.orderly.sound c.agree.ensures.same _
+
+pub returns-clause-safe : goal.returns-clause-safe
+returns-clause-safe g c = λ t u story history k. safe_as t u story history c.args.self.now.log c.args.self.now.log c.args.self.now.intake c.agree.«new».self refl c.agree.ensures.same.lists_same refl (omega arith) k

@@ -3,7 +3,7 @@ use Rattle.mm_durable.proofs.Serving.{serves, leaves_off, orderly, ended_stays}
 use Rattle.mm_durable.proofs.durable.Durable.flush.Goals as goal
 
 pub returns-in_err-written-clause-left : goal.returns-in_err-written-clause-left
-returns-in_err-written-clause-left g c = on_err_holds c.from_residual.result _ (leaves_off c.args.self.now _ _ c.in_err-written.ensures.left)
+returns-in_err-written-clause-left g c = on_err_holds c.from_residual.result _ (leaves_off c.args.self.now _ _ c.requires.orderly.sound c.flush.ensures.run c.agree.ensures.same c.in_err-written.ensures.unmoved _ _ c.in_err-written.ensures.left)
 
 pub returns-clause-same : goal.returns-clause-same
 returns-clause-same g c = record { run = c.flush.ensures.run; same_taken = c.agree.ensures.same }

@@ -4,7 +4,7 @@ use Rattle.mm_durable.proofs.Serving.{same_items, taken_same, serves, leaves_off
 use Rattle.mm_durable.proofs.durable.Durable.log.Goals as goal
 
 pub returns-in_err-logged-clause-left : goal.returns-in_err-logged-clause-left
-returns-in_err-logged-clause-left g c = on_err_holds c.from_residual.result _ (leaves_off c.args.self.now _ _ c.in_err-logged.ensures.left)
+returns-in_err-logged-clause-left g c = on_err_holds c.from_residual.result _ (leaves_off c.args.self.now _ _ c.requires.orderly.sound c.log.ensures.run (taken_same c.args.self.now.intake) c.in_err-logged.ensures.unmoved _ _ c.in_err-logged.ensures.left)
 
 pub returns-clause-same : goal.returns-clause-same
 returns-clause-same g c = same_items c.args.self.now _ c.log.ensures.run refl

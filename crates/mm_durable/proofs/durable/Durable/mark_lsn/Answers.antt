@@ -4,7 +4,7 @@ use Rattle.mm_durable.proofs.Serving.{same_items, taken_same, serves, leaves_off
 use Rattle.mm_durable.proofs.durable.Durable.mark_lsn.Goals as goal
 
 pub returns-in_err-mark_lsn-clause-left : goal.returns-in_err-mark_lsn-clause-left
-returns-in_err-mark_lsn-clause-left g c = on_err_holds c.from_residual.result _ (leaves_off c.args.self.now _ _ c.in_err-mark_lsn.ensures.left)
+returns-in_err-mark_lsn-clause-left g c = on_err_holds c.from_residual.result _ (leaves_off c.args.self.now _ _ c.requires.orderly.sound c.mark_lsn.ensures.run (taken_same c.args.self.now.intake) c.in_err-mark_lsn.ensures.unmoved _ _ c.in_err-mark_lsn.ensures.left)
 
 pub returns-clause-same : goal.returns-clause-same
 returns-clause-same g c = same_items c.args.self.now _ c.mark_lsn.ensures.run refl

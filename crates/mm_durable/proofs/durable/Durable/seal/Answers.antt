@@ -1,4 +1,4 @@
-use Rattle.std.proofs.Common.{◌≡◌, ◌+◌, true, ◌∙◌, sym, subst}
+use Rattle.std.proofs.Common.{◌≡◌, ◌+◌, true, ◌∙◌, sym, subst, arith}
 use Rattle.mm_section.specs.declared.section.Section.{Section}
 use Rattle.mm_crash.specs.Story.{with_section}
 use Rattle.mm_crash.specs.Rest.{IsNext}
@@ -8,7 +8,7 @@ use Rattle.mm_durable.specs.Log.{HasMore, IsKept, sealed}
 use Rattle.mm_durable.specs.Intake.{lists}
 use Rattle.mm_durable.specs.Durable.{next_section}
 use Rattle.mm_durable.proofs.Sealed.{section_room, parts_room, section_as, can_next, own_next, few_next, next_comes, next_images, intake_next, sealed_more, images_moved, intake_moved}
-use Rattle.mm_durable.proofs.Serving.{goes_as}
+use Rattle.mm_durable.proofs.Serving.{goes_as, safe_as}
 use Rattle.mm_durable.proofs.durable.Durable.seal.Goals as goal
 
 pub seal-requires : goal.seal-requires
@@ -64,3 +64,8 @@ returns-clause-kept g c = λ t u story history k.
       images = images_moved old.log.names.items c.add.«new».self.names.items (lists old.intake) (lists c.seal.«new».self) (with_section story (next_section old)) c.add.ensures.more.names c.seal.ensures.feeds.lists_kept
           (next_images old r.orderly r.ready r.closed t u story history k);
     }
+
+pub returns-clause-safe : goal.returns-clause-safe
+returns-clause-safe g c = λ t u story history k.
+    let old = c.args.self.now in
+    safe_as t u story history old.log c.add.«new».self old.intake c.seal.«new».self c.add.ensures.more.names c.seal.ensures.feeds.lists_kept c.add.ensures.counts.receipts_kept (omega (arith, sealed_more old.log c.add.«new».self _ c.add.ensures.more)) k

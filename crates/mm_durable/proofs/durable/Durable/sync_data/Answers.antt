@@ -9,7 +9,7 @@ use Rattle.mm_durable.proofs.Gone.{gone_then, numbers_same}
 use Rattle.mm_durable.proofs.durable.Durable.sync_data.Goals as goal
 
 pub returns-in_err-sync_data-clause-left : goal.returns-in_err-sync_data-clause-left
-returns-in_err-sync_data-clause-left g c = on_err_holds c.from_residual.result _ (leaves_off c.args.self.now _ _ c.in_err-sync_data.ensures.left)
+returns-in_err-sync_data-clause-left g c = on_err_holds c.from_residual.result _ (leaves_off c.args.self.now _ _ c.requires.orderly.sound c.sync_data.ensures.run (taken_same c.args.self.now.intake) c.in_err-sync_data.ensures.unmoved _ _ c.in_err-sync_data.ensures.left)
 
 pub returns-clause-same : goal.returns-clause-same
 returns-clause-same g c =

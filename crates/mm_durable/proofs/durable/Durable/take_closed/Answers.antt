@@ -56,5 +56,19 @@ returns-clause-kept g c = λ t u story history k.
     let count = not_closed old.log old.intake r.orderly.sound r.orderly.intake_is full c.args.db.0 r.db r.once in
     record {
       log_is = k.log_is;
-      images = images_kept old.log.names.items r.orderly.sound.names (sealed old.log) old.intake c.take_closed.«new».self r.orderly.intake_is c.args.db.0 r.db (g.O.Origin.given c.args.from.now) (g.O.Origin.given c.take_closed.«new».from) c.take_closed.ensures.takes mine (sym (ap length mine) ∙ count) story (story_count old.log r.orderly.sound t u story history k.log_is) k.images;
+      images = images_kept old.log.names.items r.orderly.sound.names (sealed old.log) old.intake c.take_closed.«new».self r.orderly.intake_is c.args.db.0 r.db (g.O.Origin.given c.args.from.now) (g.O.Origin.given c.take_closed.«new».from) c.take_closed.ensures.takes mine (sym (ap length mine) ∙ count) story (omega (arith, story_count old.log r.orderly.sound t u story history k.log_is)) k.images;
+    }
+
+pub returns-clause-safe : goal.returns-clause-safe
+returns-clause-safe g c = λ t u story history k.
+    let old = c.args.self.now in
+    let r = c.requires in
+    let full = seats_full old r.orderly r.ready in
+    let mine = get_or_from_slice_get (lists old.intake) c.args.db.0 (g.O.Origin.given c.args.from.now) [] c.take_closed.ensures.agree in
+    let count = not_closed old.log old.intake r.orderly.sound r.orderly.intake_is full c.args.db.0 r.db r.once in
+    record {
+      leaves = k.leaves;
+      given = k.given;
+      images = images_kept old.log.names.items r.orderly.sound.names (sealed old.log) old.intake c.take_closed.«new».self r.orderly.intake_is c.args.db.0 r.db (g.O.Origin.given c.args.from.now) (g.O.Origin.given c.take_closed.«new».from) c.take_closed.ensures.takes mine (sym (ap length mine) ∙ count) story k.count k.images;
+      count = k.count;
     }

@@ -4,7 +4,7 @@ use Rattle.mm_durable.proofs.Serving.{same_items, taken_same, serves, leaves_off
 use Rattle.mm_durable.proofs.durable.Durable.trim.Goals as goal
 
 pub returns-in_err-trim-clause-left : goal.returns-in_err-trim-clause-left
-returns-in_err-trim-clause-left g c = on_err_holds c.from_residual.result _ (leaves_off c.args.self.now _ _ c.in_err-trim.ensures.left)
+returns-in_err-trim-clause-left g c = on_err_holds c.from_residual.result _ (leaves_off c.args.self.now _ _ c.requires.orderly.sound c.trim.ensures.run (taken_same c.args.self.now.intake) c.in_err-trim.ensures.unmoved _ _ c.in_err-trim.ensures.left)
 
 pub returns-clause-same : goal.returns-clause-same
 returns-clause-same g c = same_items c.args.self.now _ c.trim.ensures.run refl
