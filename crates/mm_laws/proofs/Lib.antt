@@ -5,3 +5,8 @@ pub mod Finding
 pub mod Answering
 pub mod Made
 pub mod Refusing
+pub mod Alike
+pub mod Leaves
+pub mod ByKind
+pub mod Elements
+pub mod First

@@ -4,3 +4,4 @@ pub mod Answering
 pub mod Made
 pub mod Refusing
 pub mod Examples
+pub mod Fields

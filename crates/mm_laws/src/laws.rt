@@ -2,6 +2,7 @@
 
 ghost use Rattle.mm_laws.specs.Answering.{EnsureCounts, DropCounts, TooLargeComesFirst};
 ghost use Rattle.mm_laws.specs.Examples.{MadeIdInFront, MadeIdFound};
+ghost use Rattle.mm_laws.specs.Fields.{FirstBytesDecide};
 ghost use Rattle.mm_laws.specs.Finding.{FindsWhatMatches, FindsById, FindsByKey};
 ghost use Rattle.mm_laws.specs.Made.{MadeIdsAreFound};
 ghost use Rattle.mm_laws.specs.Nodes.{FullByCount, RoomComesBack};
@@ -62,4 +63,10 @@ pub fn bytes_are_judged()
     ensures apart { NoneIsBoth }
     ensures script { ScriptsAreOne }
     ensures refusal { RefusalsAreOne }
+{}
+
+/// Of two inputs of as many bytes that agree up to the end of the field at
+/// which the first fault of the one lies, the other has the same fault.
+pub fn first_bytes_decide()
+    ensures { FirstBytesDecide }
 {}

@@ -6,6 +6,8 @@
 //! - The number of an `ensureIndex` is how many indexes came, so 0 for one that is there; a document that is too large is refused as such first.
 //! - Bytes are a script, which asks for one list of actions, or they are refused at one line and for one cause.
 //! - The document that a script's insert puts in for one without `_id` has the made one in front, and is found by it alone.
+//! - Of two inputs of as many bytes that agree up to the end of the field at which the one's first fault as a document lies, the other has the
+//!   same fault.
 //!
 //! Nothing here is promised of engines: that they answer as `after` does is proved where they stand.
 #![tactic(auto)]
@@ -13,6 +15,7 @@
 mod laws;
 
 pub use laws::{
-    bytes_are_judged, finds_are_sorted, finds_give_what_matches, indexing_counts_indexes,
-    made_ids_are_found, nodes_are_counted, room_comes_back, too_large_comes_first, worked_examples,
+    bytes_are_judged, finds_are_sorted, finds_give_what_matches, first_bytes_decide,
+    indexing_counts_indexes, made_ids_are_found, nodes_are_counted, room_comes_back,
+    too_large_comes_first, worked_examples,
 };
