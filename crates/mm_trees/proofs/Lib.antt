@@ -1,0 +1,12 @@
+mod Following
+mod Live
+mod Showing
+mod Steps
+mod Calls
+mod Heights
+mod Keeping
+mod RootLaws
+mod Finding
+mod Faults
+mod Lent
+mod Changing
