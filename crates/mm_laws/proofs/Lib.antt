@@ -10,3 +10,4 @@ pub mod Leaves
 pub mod ByKind
 pub mod Elements
 pub mod First
+pub mod Ending

@@ -130,3 +130,22 @@ AgreeTo n bytes others = (length others ≡ length bytes) × (take n others ≡ 
 abbrev pub FirstBytesDecide : Type 0
 FirstBytesDecide = (bytes : List ℕ) (e : BsonFault) → AreBytes bytes → whole bytes ≡ Err e
     → (f : Field) × (fault_of f ≡ e) × IsFaulty bytes f × ((others : List ℕ) → AgreeTo (end_of f) bytes others → whole others ≡ Err e)
+
+-- ---- where the fault alone tells the field's end
+
+-- a byte that is no type, or no boolean: behind it
+abbrev pub TypesDecide : Type 0
+TypesDecide = (bytes others : List ℕ) (at byte : ℕ) → AreBytes bytes → whole bytes ≡ Err (BadType at byte) → AgreeTo (at + 1) bytes others → whole others ≡ Err (BadType at byte)
+
+-- one level too many: behind the length of the document or array
+abbrev pub DepthsDecide : Type 0
+DepthsDecide = (bytes others : List ℕ) (at : ℕ) → AreBytes bytes → whole bytes ≡ Err (TooDeep at) → AgreeTo (at + 4) bytes others → whole others ≡ Err (TooDeep at)
+
+-- too many bytes: behind the outermost length
+abbrev pub SizesDecide : Type 0
+SizesDecide = (bytes others : List ℕ) → AreBytes bytes → whole bytes ≡ Err TooLong → AgreeTo 4 bytes others → whole others ≡ Err TooLong
+
+-- a name that isn't due: behind its 00
+abbrev pub NamesDecide : Type 0
+NamesDecide = (bytes others name : List ℕ) (at : ℕ) → AreBytes bytes → whole bytes ≡ Err (BadName at) → HasNoZero name → Stands at (name ++ 0 ∷ []) bytes → AgreeTo (at + length name + 1) bytes others
+    → whole others ≡ Err (BadName at)

@@ -1,8 +1,8 @@
 //! Laws of commands and of scripts, each the contract of a function that does nothing.
 
 ghost use Rattle.mm_laws.specs.Answering.{EnsureCounts, DropCounts, TooLargeComesFirst};
-ghost use Rattle.mm_laws.specs.Examples.{MadeIdInFront, MadeIdFound};
-ghost use Rattle.mm_laws.specs.Fields.{FirstBytesDecide};
+ghost use Rattle.mm_laws.specs.Examples.{MadeIdInFront, MadeIdFound, NoType, OneMore, NoText, OtherText};
+ghost use Rattle.mm_laws.specs.Fields.{FirstBytesDecide, TypesDecide, DepthsDecide, SizesDecide, NamesDecide};
 ghost use Rattle.mm_laws.specs.Finding.{FindsWhatMatches, FindsById, FindsByKey};
 ghost use Rattle.mm_laws.specs.Made.{MadeIdsAreFound};
 ghost use Rattle.mm_laws.specs.Nodes.{FullByCount, RoomComesBack};
@@ -69,4 +69,21 @@ pub fn bytes_are_judged()
 /// which the first fault of the one lies, the other has the same fault.
 pub fn first_bytes_decide()
     ensures { FirstBytesDecide }
+{}
+
+/// Where the fault alone tells the end of its field: behind the byte that is no
+/// type or no boolean, behind a length, behind the 00 of a name.
+pub fn faults_tell_ends()
+    ensures kind { TypesDecide }
+    ensures depth { DepthsDecide }
+    ensures size { SizesDecide }
+    ensures name { NamesDecide }
+{}
+
+/// The worked faults of specs/Examples.
+pub fn worked_faults()
+    ensures kind { NoType }
+    ensures longer { OneMore }
+    ensures text { NoText }
+    ensures other { OtherText }
 {}

@@ -15,7 +15,7 @@
 mod laws;
 
 pub use laws::{
-    bytes_are_judged, finds_are_sorted, finds_give_what_matches, first_bytes_decide,
-    indexing_counts_indexes, made_ids_are_found, nodes_are_counted, room_comes_back,
-    too_large_comes_first, worked_examples,
+    bytes_are_judged, faults_tell_ends, finds_are_sorted, finds_give_what_matches,
+    first_bytes_decide, indexing_counts_indexes, made_ids_are_found, nodes_are_counted,
+    room_comes_back, too_large_comes_first, worked_examples, worked_faults,
 };
