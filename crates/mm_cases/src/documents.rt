@@ -1,76 +1,94 @@
-//! Operations on documents, and on their notation.
+//! Operations on documents.
 
-use crate::operands::{Operands, behind, doc_at, one_doc, put_number, text_of, word};
+use crate::operands::{parted, put_number, text_of, word};
 use anyhow::{Result, bail};
-use mm_bson::{Doc, DocRef, Element, Text, Value, cmp};
-use std::alloc::Global;
+use mm_bson::{Doc, DocRef, Element, Text, Value, ValueRef, cmp};
+use std::alloc::{AllocError, Global};
 use std::cmp::Ordering;
 
-/// `parse HEX`: the document that these bytes spell. Between the digits blanks may stand.
-pub fn parsed(alloc: Global, digits: &str) -> Result<String> {
+/// The digits of a text, in which blanks may stand.
+fn together(alloc: Global, digits: &str) -> Result<Vec<u8>, AllocError> {
     let mut together = Vec::new(alloc);
     for byte in digits.as_bytes() {
         if *byte != b' ' {
             together.push(*byte)?;
         }
     }
-    let bytes = hex::decode(alloc, together.as_slice())?;
-    let doc = Doc::parse(alloc, bytes.as_slice())?;
+    Ok(together)
+}
+
+/// `parse HEX`: the document that these bytes spell. Between the digits blanks may stand.
+pub fn parsed(alloc: Global, digits: &str) -> Result<String> {
+    let digits = together(alloc, digits)?;
+    let bytes = hex::decode(alloc, digits.as_slice())?;
+    text_of_spelled(alloc, bytes.as_slice())
+}
+
+fn text_of_spelled(alloc: Global, bytes: &[u8]) -> Result<String> {
+    let doc = Doc::parse(alloc, bytes)?;
     text_of(alloc, &doc)
 }
 
-/// `hex DOC`: the bytes that spell a document.
-pub fn hex_of(alloc: Global, text: &str) -> Result<String> {
-    let doc = one_doc(alloc, text)?;
-    Ok(hex::encode(alloc, doc.bytes())?)
-}
-
 /// `levels DOC`: how many levels a document has.
-pub fn levels(alloc: Global, text: &str) -> Result<String> {
-    let levels = one_doc(alloc, text)?.levels();
+pub fn levels(alloc: Global, doc: &Doc) -> Result<String> {
+    let levels = doc.levels();
     Ok(format!(in alloc; "{levels}")?)
 }
 
 /// `get DOC PATH`: what stands at a path, as the document of this one value under the empty name.
-pub fn value_at(alloc: Global, text: &str) -> Result<String> {
-    let mut operands = Operands::new(text);
-    let doc = operands.doc(alloc)?;
-    match doc.get(operands.rest()) {
-        Some(value) => text_of(alloc, &alone(alloc, value)?),
+pub fn value_at(alloc: Global, doc: &Doc, path: &str) -> Result<String> {
+    match doc.get(path) {
+        Some(value) => text_of_value(alloc, value),
         None => word(alloc, "none"),
     }
 }
 
 /// `find HEX PATH`: the same in the bytes of a document, in place.
 pub fn value_in_place(alloc: Global, text: &str) -> Result<String> {
-    let (digits, path) = text.split_once(' ').unwrap_or((text, ""));
+    let (digits, path) = parted(text);
     let bytes = hex::decode(alloc, digits)?;
-    let doc = DocRef::parse(bytes.as_slice())?;
-    let Some(value) = doc.get(path) else {
-        return word(alloc, "none");
-    };
-    let value = Value::copy_of(alloc, &value)?;
-    text_of(alloc, &alone(alloc, &value)?)
+    value_in(alloc, bytes.as_slice(), path)
 }
 
-/// A document of one value under the empty name.
-fn alone(alloc: Global, value: &Value) -> Result<Doc> {
+fn value_in(alloc: Global, bytes: &[u8], path: &str) -> Result<String> {
+    let doc = DocRef::parse(bytes)?;
+    match doc.get(path) {
+        Some(value) => text_in_place(alloc, &value),
+        None => word(alloc, "none"),
+    }
+}
+
+fn text_in_place(alloc: Global, value: &ValueRef<'_>) -> Result<String> {
+    let value = Value::copy_of(alloc, value)?;
+    text_of_value(alloc, &value)
+}
+
+/// The written form of the document of one value under the empty name.
+fn text_of_value(alloc: Global, value: &Value) -> Result<String> {
     let mut doc = Doc::new(alloc)?;
+    text_with(alloc, &mut doc, value)
+}
+
+fn text_with(alloc: Global, doc: &mut Doc, value: &Value) -> Result<String> {
     let name = Text::from_str(alloc, "")?;
-    let value = value.copy()?;
-    if !name.has_no_zero() || value.levels() >= 100 || !doc.fits(name.as_bytes(), &value) {
+    push(doc, name, value)?;
+    text_of(alloc, doc)
+}
+
+/// Appends a value, if it isn't too large.
+fn push(doc: &mut Doc, name: Text, value: &Value) -> Result<()> {
+    if !name.has_no_zero() || value.levels() >= 100 || !doc.fits(name.as_bytes(), value) {
         bail!("the value is too large");
     }
-    doc.push(name, value)?;
-    Ok(doc)
+    let value = value.copy()?;
+    Ok(doc.push(name, value)?)
 }
 
 /// `order DOC`: for each value of a document how many of its values are less.
-pub fn order(alloc: Global, text: &str) -> Result<String> {
-    let doc = one_doc(alloc, text)?;
+pub fn order(alloc: Global, elements: &[Element]) -> Result<String, AllocError> {
     let mut out = String::new(alloc);
-    for element in doc.elements() {
-        put_number(&mut out, lesser(doc.elements(), &element.value))?;
+    for element in elements {
+        put_number(&mut out, lesser(elements, &element.value))?;
     }
     Ok(out)
 }
@@ -84,28 +102,4 @@ fn lesser(elements: &[Element], value: &Value) -> usize {
         }
     }
     count
-}
-
-/// `read TEXT`: the place behind the document at the front of the text, and the document's written form.
-pub fn read(alloc: Global, text: &str) -> Result<String> {
-    read_from(alloc, text, 0)
-}
-
-/// `read_hex HEX`: the same of a text in hexadecimal digits, which may hold the end of a line.
-pub fn read_hex(alloc: Global, digits: &str) -> Result<String> {
-    let bytes = hex::decode(alloc, digits)?;
-    let text = String::from_utf8(bytes)?;
-    read_from(alloc, text.as_str(), 0)
-}
-
-/// `read_at PLACE TEXT`: the same of the document that begins at this place.
-pub fn read_at(alloc: Global, text: &str) -> Result<String> {
-    let (place, text) = text.split_once(' ').unwrap_or((text, ""));
-    read_from(alloc, text, place.parse::<usize>()?)
-}
-
-fn read_from(alloc: Global, text: &str, place: usize) -> Result<String> {
-    let (doc, end) = doc_at(alloc, text, place)?;
-    let front = format!(in alloc; "{end} ")?;
-    behind(front.into_bytes(), &doc)
 }

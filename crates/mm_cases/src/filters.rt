@@ -1,36 +1,45 @@
 //! Operations on filters.
 
-use crate::operands::{one_doc, text_of, truth, two_docs, word};
+use crate::operands::{text_of, word};
 use anyhow::Result;
 use mm_bson::Doc;
 use mm_keys::KeySpec;
-use mm_query::Filter;
+use mm_query::{Bounds, Filter};
 use std::alloc::Global;
 
 /// `filter DOC`: `ok`, if the document is a filter.
-pub fn filter(alloc: Global, text: &str) -> Result<String> {
-    let doc = one_doc(alloc, text)?;
-    let _filter = Filter::from_doc(alloc, &doc)?;
+pub fn filter(alloc: Global, doc: &Doc) -> Result<String> {
+    let _filter = Filter::from_doc(alloc, doc)?;
     word(alloc, "ok")
 }
 
 /// `matches FILTER DOC`: whether the document matches.
-pub fn matches(alloc: Global, text: &str) -> Result<String> {
-    let (filter, doc) = two_docs(alloc, text)?;
-    let filter = Filter::from_doc(alloc, &filter)?;
-    truth(alloc, filter.matches(&doc))
+pub fn matches(alloc: Global, filter: &Doc, doc: &Doc) -> Result<String> {
+    let filter = Filter::from_doc(alloc, filter)?;
+    truth(alloc, filter.matches(doc))
+}
+
+/// `true` or `false`.
+pub fn truth(alloc: Global, holds: bool) -> Result<String> {
+    word(alloc, if holds { "true" } else { "false" })
 }
 
 /// `bounds FILTER SPEC`: the least and the greatest key, each of which may be `open`.
-pub fn bounds(alloc: Global, text: &str) -> Result<String> {
-    let (filter, spec) = two_docs(alloc, text)?;
-    let filter = Filter::from_doc(alloc, &filter)?;
-    let spec = KeySpec::from_doc(alloc, &spec)?;
+pub fn bounds(alloc: Global, filter: &Doc, spec: &Doc) -> Result<String> {
+    let filter = Filter::from_doc(alloc, filter)?;
+    bounds_by(alloc, &filter, spec)
+}
+
+fn bounds_by(alloc: Global, filter: &Filter, spec: &Doc) -> Result<String> {
+    let spec = KeySpec::from_doc(alloc, spec)?;
     let bounds = filter.bounds(alloc, &spec)?;
-    let mut out = bound_text(alloc, &bounds.low)?;
-    out.push(' ')?;
-    out.push_str(bound_text(alloc, &bounds.high)?.as_str())?;
-    Ok(out)
+    texts_of(alloc, &bounds)
+}
+
+fn texts_of(alloc: Global, bounds: &Bounds) -> Result<String> {
+    let low = bound_text(alloc, &bounds.low)?;
+    let high = bound_text(alloc, &bounds.high)?;
+    Ok(format!(in alloc; "{low} {high}")?)
 }
 
 fn bound_text(alloc: Global, bound: &Option<Doc>) -> Result<String> {

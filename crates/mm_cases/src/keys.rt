@@ -1,34 +1,35 @@
 //! Operations on keys.
 
-use crate::operands::{Operands, one_doc, put_number, text_of, two_docs};
+use crate::operands::{put_number, text_of};
 use anyhow::Result;
-use mm_bson::{Element, Value};
+use mm_bson::{Doc, Element, Value};
 use mm_keys::{KeySpec, key_cmp, key_of};
-use std::alloc::Global;
+use std::alloc::{AllocError, Global};
 use std::cmp::Ordering;
 
 /// `spec DOC`: the document again, if it is a specification of keys.
-pub fn specification(alloc: Global, text: &str) -> Result<String> {
-    let doc = one_doc(alloc, text)?;
-    let spec = KeySpec::from_doc(alloc, &doc)?;
+pub fn specification(alloc: Global, doc: &Doc) -> Result<String> {
+    let spec = KeySpec::from_doc(alloc, doc)?;
     text_of(alloc, spec.document())
 }
 
 /// `key DOC SPEC`: the key of a document.
-pub fn key(alloc: Global, text: &str) -> Result<String> {
-    let (doc, spec) = two_docs(alloc, text)?;
-    let spec = KeySpec::from_doc(alloc, &spec)?;
-    let key = key_of(alloc, &doc, &spec)?;
+pub fn key(alloc: Global, doc: &Doc, spec: &Doc) -> Result<String> {
+    let spec = KeySpec::from_doc(alloc, spec)?;
+    let key = key_of(alloc, doc, &spec)?;
     text_of(alloc, &key)
 }
 
 /// `key_order SPEC DOC`: for each document inside of the second how many of them are less as keys.
-pub fn key_order(alloc: Global, text: &str) -> Result<String> {
-    let (spec, keys) = two_docs(alloc, text)?;
-    let spec = KeySpec::from_doc(alloc, &spec)?;
+pub fn key_order(alloc: Global, spec: &Doc, keys: &Doc) -> Result<String> {
+    let spec = KeySpec::from_doc(alloc, spec)?;
+    Ok(ranks(alloc, keys.elements(), &spec)?)
+}
+
+fn ranks(alloc: Global, keys: &[Element], spec: &KeySpec) -> Result<String, AllocError> {
     let mut out = String::new(alloc);
-    for key in keys.elements() {
-        put_number(&mut out, lesser(keys.elements(), &key.value, &spec))?;
+    for key in keys {
+        put_number(&mut out, lesser(keys, &key.value, spec))?;
     }
     Ok(out)
 }

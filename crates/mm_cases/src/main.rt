@@ -12,6 +12,7 @@ mod changes;
 mod documents;
 mod filters;
 mod keys;
+mod notation;
 mod operands;
 mod places;
 mod sizes;

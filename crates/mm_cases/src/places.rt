@@ -1,9 +1,9 @@
 //! Operations on places in files. A range is three numbers: its file, its offset and its length.
 
-use crate::operands::{put_number, truth};
+use crate::filters::truth;
 use anyhow::{Result, bail};
 use mm_ranges::{RangeSet, is_file, max_len};
-use std::alloc::Global;
+use std::alloc::{AllocError, Global};
 
 /// The numbers of a text.
 fn numbers(alloc: Global, text: &str) -> Result<Vec<u32>> {
@@ -14,9 +14,8 @@ fn numbers(alloc: Global, text: &str) -> Result<Vec<u32>> {
     Ok(numbers)
 }
 
-/// The set of the places of these ranges, put in one after the other.
-fn set_of(alloc: Global, numbers: &[u32]) -> Result<RangeSet> {
-    let mut set = RangeSet::new(alloc);
+/// Puts the places of these ranges into a set, one after the other.
+fn fill(set: &mut RangeSet, numbers: &[u32]) -> Result<()> {
     let mut rest = numbers;
     while let [file, at, len, others @ ..] = rest {
         if *len == 0 || at.checked_add(*len).is_none() {
@@ -25,31 +24,47 @@ fn set_of(alloc: Global, numbers: &[u32]) -> Result<RangeSet> {
         set.insert(*file, *at, *len)?;
         rest = others;
     }
-    Ok(set)
+    Ok(())
 }
 
 /// `union RANGE..`: the ranges of all their places.
 pub fn union(alloc: Global, text: &str) -> Result<String> {
-    let set = set_of(alloc, numbers(alloc, text)?.as_slice())?;
+    let numbers = numbers(alloc, text)?;
+    let mut set = RangeSet::new(alloc);
+    fill(&mut set, numbers.as_slice())?;
+    Ok(ranges_of(alloc, &set)?)
+}
+
+fn ranges_of(alloc: Global, set: &RangeSet) -> Result<String, AllocError> {
     let mut out = String::new(alloc);
-    for (file, at, len) in set.iter() {
-        put_number(&mut out, file as usize)?;
-        put_number(&mut out, at as usize)?;
-        put_number(&mut out, len as usize)?;
+    for range in set.iter() {
+        put_range(&mut out, range)?;
     }
     Ok(out)
+}
+
+/// Appends a range, with a blank before it if something stands there.
+fn put_range(out: &mut String, range: (u32, u32, u32)) -> Result<(), AllocError> {
+    let (file, at, len) = range;
+    if !out.is_empty() {
+        out.push(' ')?;
+    }
+    write!(out, "{file} {at} {len}")
 }
 
 /// `covers RANGE RANGE..`: whether each place of the first range is in one of the others.
 pub fn coverage(alloc: Global, text: &str) -> Result<String> {
     let numbers = numbers(alloc, text)?;
-    match numbers.as_slice() {
-        [file, at, len, others @ ..] => {
-            let set = set_of(alloc, others)?;
-            truth(alloc, set.covers(*file, *at, *len))
-        }
-        _ => bail!("no range"),
-    }
+    truth(alloc, is_covered(alloc, numbers.as_slice())?)
+}
+
+fn is_covered(alloc: Global, numbers: &[u32]) -> Result<bool> {
+    let [file, at, len, others @ ..] = numbers else {
+        bail!("no range");
+    };
+    let mut set = RangeSet::new(alloc);
+    fill(&mut set, others)?;
+    Ok(set.covers(*file, *at, *len))
 }
 
 /// `file NUMBER`: whether a database may have a file of this number, and how many bytes it may have.
