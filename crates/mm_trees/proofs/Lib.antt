@@ -1,12 +1,12 @@
-mod Following
-mod Live
-mod Showing
-mod Steps
-mod Calls
-mod Heights
-mod Keeping
-mod RootLaws
-mod Finding
-mod Faults
-mod Lent
-mod Changing
+pub mod Following
+pub mod Live
+pub mod Showing
+pub mod Steps
+pub mod Calls
+pub mod Heights
+pub mod Keeping
+pub mod RootLaws
+pub mod Finding
+pub mod Faults
+pub mod Lent
+pub mod Changing
