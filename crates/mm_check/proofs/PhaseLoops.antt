@@ -1,6 +1,6 @@
 -- The loops of the phases, step by step.
-use Rattle.std.proofs.Common.{◌≡◌, ℕ, zero, suc, ℤ, pos, negsuc, ◌+◌, ◌-◌, ◌<◌, ◌^◌, inl, inr, Bool, true, false, List, [], ◌∷◌, ◌++◌, length, map, take, drop, get_or, Option, Some, None, Result, Ok, Err, IfOk, Vec, Global, refl, sym, ◌∙◌, ap, subst, arith, append_assoc}
-use Rattle.std.specs.Prelude.{◌&&◌, ◌==◌, if◌then◌else◌, flat_map, min}
+use Rattle.std.proofs.Common.{◌≡◌, ℕ, zero, suc, ℤ, pos, negsuc, ◌+◌, ◌-◌, ◌<◌, ◌≤◌, ◌^◌, ◌⊎◌, inl, inr, Bool, true, false, List, [], ◌∷◌, ◌++◌, length, map, take, drop, get_or, Option, Some, None, Result, Ok, Err, IfOk, Vec, Global, refl, sym, ◌∙◌, ap, subst, arith, append_assoc}
+use Rattle.std.specs.Prelude.{◌&&◌, ◌==◌, if◌then◌else◌, flat_map, min, sum_by}
 use Rattle.std.specs.Result.{OnOk}
 use Rattle.std.specs.BTreeMap.{BTreeMap, IsEmpty, is_at}
 use Rattle.std.specs.Map.{lookup}
@@ -8,25 +8,28 @@ use Rattle.std.specs.Ordering.{nat_cmp}
 use Rattle.std.specs.List.Sorted.{IsPermutation}
 use Rattle.std.specs.declared.alloc.AllocError.{AllocError}
 use Rattle.std.proofs.lemmas.Bool.{cases_Bool, false≢true, eqb-true}
-use Rattle.std.proofs.lemmas.List.{take_more, drop_more, drop-map, map-append}
+use Rattle.std.proofs.lemmas.List.{take_more, drop_more, drop-map, take-map, map-append}
 use Rattle.std.proofs.lemmas.List.Concat.{flat_map-append}
-use Rattle.mm_ranges.specs.Overlay.{Image}
+use Rattle.mm_ranges.specs.Overlay.{Image, bytes_at}
 use Rattle.mm_links.specs.Links.{Place, same, has, once, last_of}
+use Rattle.mm_links.proofs.LinkLaws.{has_more}
 use Rattle.mm_records.specs.Constants.{is_name}
-use Rattle.mm_walk.specs.Walk.{Reading, key}
+use Rattle.mm_walk.specs.Walk.{Reading, key, AreWhole, BreaksFirst, seen_after}
 use Rattle.mm_walk.specs.Tiles.{Block, IsRising, first_gap}
+use Rattle.mm_walk.specs.Questions.{first_failing}
 use Rattle.mm_check.specs.RecordChain.{rec_at, is_pos}
 use Rattle.mm_check.specs.ExtentChain.{ext_size, nat_in, asked}
 use Rattle.mm_check.specs.BlockQuestions.{block_len, blocks_of, by_place, gap_at, gap_or, first_gap_of}
 use Rattle.mm_check.specs.BlockMap.{items_or, blocks_in, HasBlocks, PutsBlock}
 use Rattle.mm_check.specs.CountQuestions.{counts_right}
 use Rattle.mm_check.specs.NodeQuestions.{free_name, node_place}
-use Rattle.mm_check.specs.Findings.{Owner, joined, owners_of, without_free, name_of, details_at, count_questions}
+use Rattle.mm_check.specs.Findings.{Owner, joined, lists_of, owners_of, without_free, name_of, details_at, count_questions}
 use Rattle.mm_check.proofs.RecordLaws.{if_yes, if_no, eq_of}
 use Rattle.mm_check.proofs.PhaseBack.{has_either}
 use Rattle.mm_check.proofs.Placed.{by_place_permutation, blocks_rise}
 use Rattle.mm_check.proofs.BlockLoops.{names_extent, blocks_more}
 use Rattle.mm_check.proofs.Chained.{append_nil}
+use Rattle.mm_check.proofs.ChainRows.{whole_append, breaks_behind}
 use Rattle.mm_check.proofs.Insides.{has_in}
 
 pub on_ok : {T E : Type 0} (r : Result T E) (P Q : Type 0) → (P → Q) → OnOk r P → OnOk r Q
@@ -69,6 +72,20 @@ flat_split f g (x ∷ xs) (suc i) v lt e =
     ∙ sym (append_assoc (f (g x)) (flat_map f (map g (take i xs)) ++ f (g v)) (flat_map f (map g (drop (i + 1) xs))))
     ∙ ap (λ rs. rs ++ flat_map f (map g (drop (i + 1) xs))) (sym (append_assoc (f (g x)) (flat_map f (map g (take i xs))) (f (g v))))
     ∙ ap (λ (n : ℕ). f (g x) ++ flat_map f (map g (take i xs)) ++ f (g v) ++ flat_map f (map g (drop n (x ∷ xs)))) (sym next)
+
+-- the lists of the first nodes, and of the next one
+pub lists_next : {V : Type 0} (image : Image) (g : V → Owner) (vs : List V) (i : ℕ) (v : V) (before : List Place) (pss qss yss : List (List Place)) → i < length vs → v ≡ get_or vs i v → AreWhole before (flat_map (lists_of image) (map g (take i vs))) pss → AreWhole (seen_after before pss) (lists_of image (g v)) qss → yss ≡ pss ++ qss
+    → AreWhole before (flat_map (lists_of image) (map g (take (i + 1) vs))) yss
+lists_next image g vs i v before pss qss yss lt own whole more e =
+    subst (λ (rs : List Reading). AreWhole before rs yss) (sym (flat_taken (lists_of image) g vs i v lt own))
+    (subst (λ (zss : List (List Place)). AreWhole before (flat_map (lists_of image) (map g (take i vs)) ++ lists_of image (g v)) zss) (sym e) (whole_append before (flat_map (lists_of image) (map g (take i vs))) pss (lists_of image (g v)) qss whole more))
+
+-- and where one of them breaks
+pub lists_break : {V : Type 0} (image : Image) (g : V → Owner) (vs : List V) (i : ℕ) (v : V) (before : List Place) (pss : List (List Place)) (at : Place) → i < length vs → v ≡ get_or vs i v → AreWhole before (flat_map (lists_of image) (map g (take i vs))) pss → BreaksFirst (seen_after before pss) (lists_of image (g v)) at
+    → BreaksFirst before (flat_map (lists_of image) (map g vs)) at
+lists_break image g vs i v before pss at lt own whole b =
+    subst (λ (rs : List Reading). BreaksFirst before rs at) (sym (flat_split (lists_of image) g vs i v lt own))
+    (breaks_behind before (flat_map (lists_of image) (map g (take i vs))) pss (lists_of image (g v)) (flat_map (lists_of image) (map g (drop (i + 1) vs))) at whole b)
 
 -- a node's extents are among those of all
 pub own_among : {V : Type 0} (g : V → Owner) (vs : List V) (i : ℕ) (v : V) (p : Place) → i < length vs → v ≡ get_or vs i v → has (g v).extents p ≡ true → has (flat_map (λ o. o.extents) (map g vs)) p ≡ true
@@ -137,6 +154,24 @@ counts_here g items image vs ws i v lt e =
     ∙ ap (λ x. count_questions image (g x ∷ map g (drop (i + 1) vs)) (map items ws)) (sym e)
     ∙ ap (λ rs. asked (node_place (g v).node) (node_counts image (g v) (map items ws)) ∷ count_questions image (map g (drop (i + 1) vs)) rs) (drop-map items (length (g v).extents) ws)
 
+-- the first node's test fails, or holds and leaves the others
+module _ {V W : Type 0} (g : V → Owner) (items : W → List Place) (image : Image) (vs : List V) (ws : List W) (i : ℕ) (v : V) (lt : i < length vs) (own : v ≡ get_or vs i v) where
+  own_test : (first : List W) → first ≡ take (length (g v).extents) ws → (b : Bool) → b ≡ counts_right image (name_of image (g v).node) (details_at image (g v).node) (g v).extents (joined (map items first)) → node_counts image (g v) (map items ws) ≡ b
+  own_test first e b h = ap (λ pss. counts_right image (name_of image (g v).node) (details_at image (g v).node) (g v).extents (joined pss)) (take-map items (length (g v).extents) ws ∙ ap (map items) (sym e)) ∙ sym h
+
+  pub counts_wrong : (first : List W) → first ≡ take (length (g v).extents) ws → (b : Bool) → b ≡ counts_right image (name_of image (g v).node) (details_at image (g v).node) (g v).extents (joined (map items first)) → b ≡ false
+      → first_failing (count_questions image (map g (drop i vs)) (map items ws)) ≡ Some (node_place (g v).node)
+  counts_wrong first e b h n =
+      ap first_failing (counts_here g items image vs ws i v lt own)
+      ∙ if_no (node_counts image (g v) (map items ws)) (first_failing (count_questions image (map g (drop (i + 1) vs)) (map items (drop (length (g v).extents) ws)))) (Some (node_place (g v).node)) (own_test first e b h ∙ n)
+
+  pub counts_next : (first other : List W) → first ≡ take (length (g v).extents) ws → other ≡ drop (length (g v).extents) ws → (b : Bool) → b ≡ counts_right image (name_of image (g v).node) (details_at image (g v).node) (g v).extents (joined (map items first)) → b ≡ true
+      → first_failing (count_questions image (map g (drop i vs)) (map items ws)) ≡ first_failing (count_questions image (map g (drop (i + 1) vs)) (map items other))
+  counts_next first other e f b h y =
+      ap first_failing (counts_here g items image vs ws i v lt own)
+      ∙ if_yes (node_counts image (g v) (map items ws)) (first_failing (count_questions image (map g (drop (i + 1) vs)) (map items (drop (length (g v).extents) ws)))) (Some (node_place (g v).node)) (own_test first e b h ∙ y)
+      ∙ ap (λ us. first_failing (count_questions image (map g (drop (i + 1) vs)) (map items us))) (sym f)
+
 -- places of the first lists, and of those behind
 pub joined_taken : (pss : List (List Place)) (n : ℕ) (p : Place) → has (joined (take n pss)) p ≡ true → has (joined pss) p ≡ true
 joined_taken pss zero p h = absurd (false≢true h)
@@ -147,6 +182,10 @@ pub joined_dropped : (pss : List (List Place)) (n : ℕ) (p : Place) → has (jo
 joined_dropped pss zero p h = h
 joined_dropped [] (suc n) p h = h
 joined_dropped (ps ∷ pss) (suc n) p h = has_in ps (joined pss) p (inr (joined_dropped pss n p h))
+
+pub last_none : (xs : List Place) → length xs ≡ 0 → last_of xs ≡ None
+last_none [] e = refl
+last_none (x ∷ xs) e = absurd (omega (arith, e))
 
 pub last_at : (xs : List Place) (n : ℕ) (d : Place) → n ≡ length xs → 0 < n → last_of xs ≡ Some (get_or xs (n - 1) d)
 last_at xs n d e lt = by xs d (subst (λ (m : ℕ). 0 < m) e lt) ∙ ap (λ (m : ℕ). Some (get_or xs (m - 1) d)) (sym e)

@@ -32,9 +32,12 @@ is_uncapped d = is_pos d.is_capped 0 && (is_pos d.max_docs_in_capped 0x7fffffff 
 abbrev pub is_plain : Details → Bool
 is_plain d = (d.data_file_version == 0) && ((d.index_file_version == 0) && ((d.multikey == 0) && (is_pos d.extra_offset 0 && is_pos d.index_builds 0)))
 
+-- the fields that don't count indexes
+abbrev pub others_right : List ℕ → Details → Bool
+others_right name d = is_uncapped d && ((d.padding == PADDING) && (flag_is name d.system_flags && (flag_is name d.user_flags && is_plain d)))
+
 abbrev pub constants_right : List ℕ → Details → Bool
-constants_right name d = is_index_count name d.n_indexes && (list_all is_spare (drop (nat_of d.n_indexes) d.indexes)
-    && (is_uncapped d && ((d.padding == PADDING) && (flag_is name d.system_flags && (flag_is name d.user_flags && is_plain d)))))
+constants_right name d = is_index_count name d.n_indexes && (list_all is_spare (drop (nat_of d.n_indexes) d.indexes) && others_right name d)
 
 -- ---- counts
 

@@ -6,9 +6,12 @@ pub mod Blocks
 pub mod Phases
 pub mod FileQuestions
 pub mod NodeQuestions
+pub mod NodeForms
 pub mod BlockQuestions
 pub mod CountQuestions
 pub mod Findings
 pub mod FoundShape
 pub mod SeenNames
 pub mod BlockMap
+pub mod TheCheck
+pub mod PhaseOrder

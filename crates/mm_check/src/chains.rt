@@ -8,18 +8,23 @@ ghost use Rattle.mm_records.specs.Stands.{ns_in};
 ghost use Rattle.mm_walk.specs.Questions.{first_failing};
 ghost use Rattle.mm_check.specs.ExtentChain.{InFile, KnowsExtents};
 ghost use Rattle.mm_check.specs.FileQuestions.{file_questions};
-ghost use Rattle.mm_check.specs.Findings.{file_chains};
-ghost use Rattle.mm_check.specs.Phases.{reading_of, extents_reading, node_reading, file_chain, node_chain, record_chain};
+ghost use Rattle.mm_check.specs.Findings.{file_chains, lists_of};
+ghost use Rattle.mm_check.specs.Phases.{reading_of, extents_reading, node_reading, deleted_reading, owner_at, file_chain, node_chain, record_chain, list_chain};
 
 use crate::extents::{FileExtents, NodeExtents};
 use crate::files::{DATA_FILES, unused};
 use crate::frames::read_extent;
+use crate::lists::Deleted;
 use crate::nodes::{node_details, node_head, node_ofs};
 use crate::numbers::size;
 use crate::records::Records;
+use mm_base::DiskLoc;
 use mm_views::{NS_FILE, Views};
 use std::alloc::{AllocError, Global};
 use std::collections::BTreeSet;
+
+// How many lists of deleted blocks a node has.
+const LISTS: u32 = 19;
 
 // The extents of a data file.
 fn file_chain(views: &Views, file: u32) -> FileExtents<'_>
@@ -122,6 +127,49 @@ pub(crate) fn record_chains<'a>(
     let mut chains = Vec::new(alloc);
     for i in 0..extents.len() {
         chains.push(record_chain(views, extents[i]))?;
+    }
+    Ok(chains)
+}
+
+// A list of a node's deleted blocks.
+fn list_chain<'a>(
+    views: &'a Views,
+    node: u32,
+    extents: &'a [(u32, u32)],
+    known: &'a BTreeSet<u64>,
+    list: u32,
+) -> Deleted<'a>
+    requires node { node < count_of (ns_in views.now.private) }
+    requires extents { KnowsExtents views.now.private known.now extents.now }
+    requires list { list < 19 }
+    ensures { deleted_reading result ≡ list_chain views.now.private (owner_at node extents.now) list }
+{
+    let head: DiskLoc = node_details(views, node).deleted[list as usize];
+    Deleted {
+        views,
+        own: extents,
+        known,
+        list,
+        node: (NS_FILE, node_ofs(views, node)),
+        head,
+    }
+}
+
+// The lists of a node's deleted blocks.
+pub(crate) fn node_lists<'a>(
+    alloc: Global,
+    views: &'a Views,
+    node: u32,
+    extents: &'a [(u32, u32)],
+    known: &'a BTreeSet<u64>,
+) -> Result<Vec<Deleted<'a>>, AllocError>
+    requires node { node < count_of (ns_in views.now.private) }
+    requires extents { KnowsExtents views.now.private known.now extents.now }
+    ensures { IfOk result (λ chains. map deleted_reading chains.items ≡ lists_of views.now.private (owner_at node extents.now)) }
+{
+    let mut chains = Vec::new(alloc);
+    for list in 0..LISTS {
+        chains.push(list_chain(views, node, extents, known, list))?;
     }
     Ok(chains)
 }

@@ -75,7 +75,7 @@ fn has_header(views: &Views, file: u32) -> bool
 }
 
 // None of the data files from a number on is there.
-fn none_from(views: &Views, file: u32) -> bool
+pub(crate) fn none_from(views: &Views, file: u32) -> bool
     requires { file ≤ 8 }
     ensures { result ≡ none_from views.now.private file (8 - file) }
 {

@@ -8,33 +8,39 @@
 //!   (`ListLaws`, `ListsBack`), the blocks of an extent (`BlockLaws`, `BlocksBack`) and the constant fields of details (`CountLaws`). That
 //!   extents tile each file is said from the check to what stands (`AreaLaws`, `Tiled`).
 //! - What the phases up to `chain` find meets the premises of their laws (`FoundExtents`, `FoundAreas`, `FoundRecords`).
-//! - `wrong_file` answers the first file that is missing or wrong; `first_lost` the first extent that no chain has. Four phases follow
-//!   chains or blocks, each exactly: `file_extents` the extents of each file, `node_extents` the chains of the nodes, `live_records` the
-//!   live records of extents, and `first_gap_of` the blocks of extents by place. Each answers all places exactly where its chains are
-//!   whole, else the one place that is first wrong. How a list of deleted blocks is read is proved to be as its definition says
-//!   (`Deleted`).
+//! - `check_files` runs the phases in a row: it answers Ok exactly where none of them finds anything, else the first finding, and no other
+//!   finding is the first. Each phase is a call of its own: `wrong_file`, `wrong_node` within the crate, `file_extents`, `node_extents`,
+//!   `first_lost`, `live_records`, `deleted_blocks`, `first_gap_of` and `wrong_counts`. Those that follow chains answer all places exactly
+//!   where each chain is whole, else the one place that is first wrong.
 //!
-//! The laws of single phases aren't joined to one law on all of them yet, and the phases aren't run in a row. Each walk ends on any bytes.
-//! Want of memory has its own answer.
+//! The laws of single phases aren't joined to one law on all of them yet. Each walk ends on any bytes. Want of memory has its own answer.
 #![tactic(auto)]
 
 mod chains;
+mod constants;
+mod counts;
 mod extents;
 mod files;
+mod forms;
 mod frames;
 mod gaps;
+mod hash;
 mod lists;
 mod lost;
 mod nodes;
 mod numbers;
+mod order;
 mod owners;
 mod phases;
 mod places;
 mod records;
+mod table;
 
+pub use counts::wrong_counts;
 pub use files::wrong_file;
 pub use gaps::first_gap_of;
 pub use lost::first_lost;
-pub use owners::{Owned, extents_of, without};
-pub use phases::{file_extents, live_chains, live_records, node_extents};
+pub use order::check_files;
+pub use owners::Owned;
+pub use phases::{deleted_blocks, file_extents, live_chains, live_records, node_extents};
 pub use records::Records;

@@ -49,7 +49,7 @@ pub(crate) fn is_named(views: &Views, node: u32, name: &[u8]) -> bool
 }
 
 /// The nodes with their chains, but those of one name.
-pub fn without<'a>(
+pub(crate) fn without<'a>(
     alloc: Global,
     views: &Views,
     free: &[u8],
@@ -74,7 +74,7 @@ pub fn without<'a>(
 }
 
 /// The extents of these nodes, one node's behind the other's.
-pub fn extents_of(alloc: Global, owners: &[Owned<'_>]) -> Result<Vec<(u32, u32)>, AllocError>
+pub(crate) fn extents_of(alloc: Global, owners: &[Owned<'_>]) -> Result<Vec<(u32, u32)>, AllocError>
     ensures { IfOk result (λ all. all.items ≡ flat_map (λ o. o.extents) (map owner_of owners.now)) }
 {
     let mut all = Vec::new(alloc);
