@@ -1,6 +1,6 @@
 -- Only places of the data files are right on the chains that the check follows.
-use Rattle.std.proofs.Common.{◌≡◌, ℕ, inl, inr, ◌+◌, ◌<◌, ◌≤◌, pos, negsuc, ℤ, true, List, [], ◌∷◌, ◌++◌, length, map, Option, Some, None, refl, sym, ◌∙◌, ap, subst, arith}
-use Rattle.std.specs.Prelude.{◌&&◌, ◌==◌, nat_le, flat_map, slice_index_or}
+use Rattle.std.proofs.Common.{◌≡◌, ℕ, inl, inr, ◌+◌, ◌<◌, ◌≤◌, pos, negsuc, ℤ, true, List, [], ◌∷◌, length, map, Some, None, sym, ◌∙◌, subst, arith}
+use Rattle.std.specs.Prelude.{◌&&◌, ◌==◌, nat_le, slice_index_or}
 use Rattle.std.specs.List.{AllByRecursion, range_with_len}
 use Rattle.std.proofs.lemmas.Bool.{cases_Bool, false≢true, eqb-true}
 use Rattle.mm_base.specs.Bytes.{part}
@@ -8,17 +8,16 @@ use Rattle.mm_base.specs.Places.{null}
 use Rattle.mm_base.specs.declared.place.DiskLoc.{DiskLoc}
 use Rattle.mm_ranges.specs.Overlay.{Image, bytes_at}
 use Rattle.mm_extents.proofs.FileLaws.{file_len_most}
-use Rattle.mm_links.specs.Links.{Place, same, has}
+use Rattle.mm_links.specs.Links.{Place, has}
 use Rattle.mm_links.proofs.LinkLaws.{both, same_own, has_here, has_more}
-use Rattle.mm_walk.specs.declared.walk.Link.{Link}
-use Rattle.mm_walk.specs.Walk.{Reading, IsLow, StaysLow}
+use Rattle.mm_walk.specs.Walk.{IsLow, StaysLow}
 use Rattle.mm_walk.specs.Questions.{first_failing}
 use Rattle.mm_check.specs.RecordChain.{rec_at, is_record, names_ofs, names_place, records_reading}
 use Rattle.mm_check.specs.ExtentChain.{ext_at, ext_size, is_extent_here, is_named_extent, file_reading, chain_reading, EndsIn, InFile}
 use Rattle.mm_check.specs.ListChain.{del_at, lies_in_own, is_deleted, list_reading}
 use Rattle.mm_check.specs.FileQuestions.{unused_of, file_questions}
 use Rattle.mm_check.specs.NodeQuestions.{node_place}
-use Rattle.mm_check.specs.Findings.{files_from, nodes_in, field_of, details_at, Owner, file_chains, extent_chains, record_chains, lists_of}
+use Rattle.mm_check.specs.Findings.{files_from, field_of, details_at, Owner, file_chains, lists_of}
 use Rattle.mm_check.proofs.RecordLaws.{if_no, nat_le_true, record_of_test}
 use Rattle.mm_check.proofs.Insides.{Each, IsThere, all_there, file_is_right}
 

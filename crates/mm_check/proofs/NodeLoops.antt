@@ -1,12 +1,12 @@
 -- The nodes one by one, and what the code sees of their names.
-use Rattle.std.proofs.Common.{◌≡◌, ℕ, zero, suc, ◌+◌, ◌<◌, ◌≤◌, ◌⊎◌, inl, inr, Bool, true, false, List, [], ◌∷◌, ◌++◌, length, take, drop, Option, Some, None, MatchOption, refl, sym, ◌∙◌, ap, subst, arith, length-append}
-use Rattle.std.specs.Prelude.{◌&&◌, ◌||◌, ◌==◌, not, nat_lt, nat_le, if◌then◌else◌, is_some}
+use Rattle.std.proofs.Common.{◌≡◌, ℕ, zero, suc, ◌+◌, ◌<◌, ◌≤◌, inl, inr, Bool, true, false, List, [], ◌∷◌, ◌++◌, length, drop, Option, Some, None, MatchOption, refl, sym, ◌∙◌, ap, subst, arith, length-append}
+use Rattle.std.specs.Prelude.{◌&&◌, ◌||◌, ◌==◌, nat_lt, nat_le, if◌then◌else◌, is_some}
 use Rattle.std.proofs.lemmas.Bool.{cases_Bool, cases_lt, false≢true, eqb-true}
 use Rattle.std.proofs.lemmas.Bool.Decides.{nat_tests}
 use Rattle.mm_base.specs.Names.{IsName}
 use Rattle.mm_ranges.specs.declared.limits.TheConstants.{NS_FILE}
 use Rattle.mm_links.specs.Links.{Place}
-use Rattle.mm_nstable.specs.Nodes.{count_of, node_at, name_in, is_free}
+use Rattle.mm_nstable.specs.Nodes.{count_of}
 use Rattle.mm_records.specs.Constants.{is_name}
 use Rattle.mm_walk.specs.Questions.{Question, first_failing}
 use Rattle.mm_check.specs.ExtentChain.{asked}

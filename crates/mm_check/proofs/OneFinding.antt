@@ -1,5 +1,5 @@
 -- At most one finding is the first, and there is none where no phase finds anything.
-use Rattle.std.proofs.Common.{◌≡◌, ◌≢◌, ℕ, zero, suc, ◌+◌, ◌-◌, ◌<◌, ◌≤◌, inl, inr, true, List, [], ◌∷◌, ◌++◌, Option, Some, None, Result, Ok, Err, refl, sym, ◌∙◌, ap, subst, arith}
+use Rattle.std.proofs.Common.{◌≡◌, ℕ, zero, suc, ◌+◌, ◌-◌, ◌<◌, inl, inr, List, [], ◌++◌, Option, Some, None, Result, Ok, Err, refl, sym, ◌∙◌, ap, subst, arith}
 use Rattle.std.specs.Prelude.{flat_map}
 use Rattle.std.specs.Result.{OnOk}
 use Rattle.std.proofs.lemmas.Bool.{cases_lt}
@@ -18,7 +18,7 @@ use Rattle.mm_check.specs.FileQuestions.{file_questions}
 use Rattle.mm_check.specs.NodeQuestions.{node_questions}
 use Rattle.mm_check.specs.BlockQuestions.{first_gap_of}
 use Rattle.mm_check.specs.Findings.{joined, Owner, owners, file_chains, extent_chains, record_chains, list_chains, count_questions, Clear3, Clear5, Clear6, Clear7, Clear8, FindsExtents, FindsLost, FindsChain, FindsDeleted, FindsTiling, FindsCounts, IsClear}
-use Rattle.mm_check.specs.PhaseOrder.{number_of, Clear4, Passed, FailsAt}
+use Rattle.mm_check.specs.PhaseOrder.{number_of, Passed, FailsAt}
 use Rattle.mm_check.specs.TheCheck.{IsFinding, IfFound, Finds}
 
 none_some : {P : Type 0} (o : Option P) (x : P) → o ≡ None → o ≡ Some x → ⊥

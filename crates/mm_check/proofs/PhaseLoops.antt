@@ -1,6 +1,6 @@
 -- The loops of the phases, step by step.
-use Rattle.std.proofs.Common.{◌≡◌, ℕ, zero, suc, ℤ, pos, negsuc, ◌+◌, ◌-◌, ◌<◌, ◌≤◌, ◌^◌, ◌⊎◌, inl, inr, Bool, true, false, List, [], ◌∷◌, ◌++◌, length, map, take, drop, get_or, Option, Some, None, Result, Ok, Err, IfOk, Vec, Global, refl, sym, ◌∙◌, ap, subst, arith, append_assoc}
-use Rattle.std.specs.Prelude.{◌&&◌, ◌==◌, if◌then◌else◌, flat_map, min, sum_by}
+use Rattle.std.proofs.Common.{◌≡◌, ℕ, zero, suc, ℤ, pos, negsuc, ◌+◌, ◌-◌, ◌<◌, ◌^◌, inl, inr, Bool, true, false, List, [], ◌∷◌, ◌++◌, length, map, take, drop, get_or, Option, Some, None, Result, Ok, Err, IfOk, Vec, Global, refl, sym, ◌∙◌, ap, subst, arith, append_assoc}
+use Rattle.std.specs.Prelude.{◌&&◌, ◌==◌, if◌then◌else◌, flat_map, min}
 use Rattle.std.specs.Result.{OnOk}
 use Rattle.std.specs.BTreeMap.{BTreeMap, IsEmpty, is_at}
 use Rattle.std.specs.Map.{lookup}
@@ -10,9 +10,8 @@ use Rattle.std.specs.declared.alloc.AllocError.{AllocError}
 use Rattle.std.proofs.lemmas.Bool.{cases_Bool, false≢true, eqb-true}
 use Rattle.std.proofs.lemmas.List.{take_more, drop_more, drop-map, take-map, map-append}
 use Rattle.std.proofs.lemmas.List.Concat.{flat_map-append}
-use Rattle.mm_ranges.specs.Overlay.{Image, bytes_at}
+use Rattle.mm_ranges.specs.Overlay.{Image}
 use Rattle.mm_links.specs.Links.{Place, same, has, once, last_of}
-use Rattle.mm_links.proofs.LinkLaws.{has_more}
 use Rattle.mm_records.specs.Constants.{is_name}
 use Rattle.mm_walk.specs.Walk.{Reading, key, AreWhole, BreaksFirst, seen_after}
 use Rattle.mm_walk.specs.Tiles.{Block, IsRising, first_gap}

@@ -2,7 +2,6 @@
 use Rattle.std.specs.Prelude.{ℕ, List, slice_index_or}
 use Rattle.mm_base.specs.Bytes.{part}
 use Rattle.mm_base.specs.Places.{null}
-use Rattle.mm_base.specs.declared.place.DiskLoc.{DiskLoc}
 use Rattle.mm_ranges.specs.Overlay.{Image, bytes_at}
 use Rattle.mm_links.specs.Links.{Place}
 use Rattle.mm_walk.specs.Walk.{Reading}

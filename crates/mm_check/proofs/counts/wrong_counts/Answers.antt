@@ -1,4 +1,4 @@
-use Rattle.std.proofs.Common.{ℕ, List, Vec, Global, Some, map, length, refl, sym, ap, ◌∙◌}
+use Rattle.std.proofs.Common.{ℕ, List, Vec, Global, Some, map, refl, sym, ap, ◌∙◌}
 use Rattle.std.proofs.lemmas.List.{at_drop_all, take-map, drop-map, get_or_default}
 use Rattle.mm_ranges.specs.declared.limits.TheConstants.{NS_FILE}
 use Rattle.mm_links.specs.Links.{Place, has}

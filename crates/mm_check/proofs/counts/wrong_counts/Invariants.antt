@@ -1,4 +1,4 @@
-use Rattle.std.proofs.Common.{◌≡◌, ℕ, true, ◌≤◌, ◌+◌, length, drop, map}
+use Rattle.std.proofs.Common.{◌≡◌, true, ◌≤◌, ◌+◌, length, drop, map}
 use Rattle.mm_ranges.specs.Overlay.{bytes_at}
 use Rattle.mm_links.specs.Links.{Place, has}
 use Rattle.mm_walk.specs.Questions.{first_failing}

@@ -1,4 +1,4 @@
-use Rattle.std.proofs.Common.{◌≡◌, ℕ, List, true, false, length, drop, take, sym, ◌∙◌}
+use Rattle.std.proofs.Common.{◌≡◌, false, length, take, sym, ◌∙◌}
 use Rattle.mm_check.specs.NodeQuestions.{begins}
 use Rattle.mm_check.specs.NodeForms.{HasFront}
 use Rattle.mm_check.proofs.CodeTests.{bytes_name}

@@ -1,6 +1,5 @@
-use Rattle.std.proofs.Common.{◌≡◌, ℕ, List, true, false, length, sym, ap, ◌∙◌}
+use Rattle.std.proofs.Common.{length, sym, ap, ◌∙◌}
 use Rattle.mm_records.specs.Constants.{is_name}
-use Rattle.mm_check.specs.NodeQuestions.{free_name, indexes_name}
 use Rattle.mm_check.proofs.CodeTests.{bytes_name}
 use Rattle.mm_check.proofs.NodeLoops.{form_empty, form_long, form_free, form_indexes, form_own, some_bytes, no_bytes}
 use Rattle.mm_check.proofs.forms.has_form.Goals as goal

@@ -1,9 +1,6 @@
-use Rattle.std.proofs.Common.{List, Vec, Global, ℕ, take, refl, ap, subst}
-use Rattle.std.specs.BTreeMap.{is_at}
-use Rattle.std.specs.Ordering.{nat_cmp}
+use Rattle.std.proofs.Common.{List, refl, subst}
 use Rattle.std.proofs.lemmas.List.{take_all}
 use Rattle.mm_links.specs.Links.{Place}
-use Rattle.mm_walk.specs.Walk.{key}
 use Rattle.mm_check.specs.BlockMap.{HasBlocks}
 use Rattle.mm_check.proofs.Chained.{item_has}
 use Rattle.mm_check.proofs.PhaseLoops.{puts_next, none_blocks}

@@ -1,11 +1,9 @@
-use Rattle.std.proofs.Common.{◌≡◌, ℕ, ℤ, Some, None, sym, ap, ◌∙◌, rules}
+use Rattle.std.proofs.Common.{sym, ap, ◌∙◌, rules}
 use Rattle.std.specs.Prelude.{FitsSigned}
 use Rattle.std.specs.Int.{w32}
-use Rattle.std.specs.Result.{OnOk}
 use Rattle.std.proofs.lemmas.Int.{to_z-of_z}
 use Rattle.mm_frames.specs.declared.rec_header.RecHeader.{RecHeader}
 use Rattle.mm_check.specs.ExtentChain.{nat_of, nat_in}
-use Rattle.mm_check.specs.RecordChain.{rec_at}
 use Rattle.mm_check.proofs.PhaseLoops.{puts_none, puts_there, nat_some, on_ok}
 use Rattle.mm_check.proofs.gaps.place_block.Goals as goal
 

@@ -1,11 +1,11 @@
-use Rattle.std.proofs.Common.{◌≡◌, ℕ, List, [], ◌<◌, map, ap, sym, ◌∙◌, subst, refl, Vec, Global}
+use Rattle.std.proofs.Common.{ℕ, List, [], ◌<◌, map, ap, sym, ◌∙◌, subst, refl, Vec, Global}
 use Rattle.std.specs.Prelude.{flat_map}
 use Rattle.mm_model.specs.declared.finding.What.TheVariants.{Deleted}
-use Rattle.mm_links.specs.Links.{Place, has, once}
+use Rattle.mm_links.specs.Links.{has}
 use Rattle.mm_nstable.specs.Nodes.{count_of}
 use Rattle.mm_records.specs.Stands.{ns_in}
 use Rattle.mm_walk.specs.Walk.{AreWhole, BreaksFirst, seen_after}
-use Rattle.mm_check.specs.Findings.{Owner, lists_of, owners}
+use Rattle.mm_check.specs.Findings.{Owner, lists_of}
 use Rattle.mm_check.specs.Phases.{owner_of}
 use Rattle.mm_check.proofs.ChainRows.{fresh_after}
 use Rattle.mm_check.proofs.CheckLaws.{owners_below, all_mapped}

@@ -1,4 +1,4 @@
-use Rattle.std.proofs.Common.{◌≡◌, ℕ, ◌<◌, List, [], All, map, sym, ap, ◌∙◌, subst, Vec, Global}
+use Rattle.std.proofs.Common.{ℕ, ◌<◌, List, [], All, map, sym, ap, ◌∙◌, subst, Vec, Global}
 use Rattle.mm_model.specs.declared.finding.What.TheVariants.{Extents, Lost}
 use Rattle.mm_links.specs.Links.{Place, has}
 use Rattle.mm_nstable.specs.Nodes.{count_of}

@@ -1,4 +1,4 @@
-use Rattle.std.proofs.Common.{◌≡◌, ℕ, ◌<◌, List, All, length, map, sym, ap, ◌∙◌, subst}
+use Rattle.std.proofs.Common.{ℕ, ◌<◌, List, All, length, map, sym, ap, ◌∙◌, subst}
 use Rattle.mm_nstable.specs.Nodes.{count_of}
 use Rattle.mm_records.specs.Stands.{ns_in}
 use Rattle.mm_check.specs.Findings.{owners_of, without_free}

@@ -1,7 +1,7 @@
-use Rattle.std.proofs.Common.{◌≡◌, ℕ, ◌<◌, List, ◌++◌, inl, map, sym, ap, ◌∙◌}
+use Rattle.std.proofs.Common.{◌<◌, List, inl, map, sym, ap, ◌∙◌}
 use Rattle.std.specs.Prelude.{flat_map}
 use Rattle.mm_model.specs.declared.finding.What.TheVariants.{Counts}
-use Rattle.mm_links.specs.Links.{Place, has}
+use Rattle.mm_links.specs.Links.{has}
 use Rattle.mm_nstable.specs.Nodes.{count_of}
 use Rattle.mm_records.specs.Stands.{ns_in}
 use Rattle.mm_walk.specs.Questions.{first_failing}

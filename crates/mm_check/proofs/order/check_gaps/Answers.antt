@@ -1,9 +1,7 @@
-use Rattle.std.proofs.Common.{◌≡◌, List, ◌++◌, None, Some, map, true, sym, ap, ◌∙◌}
-use Rattle.std.specs.Prelude.{flat_map}
+use Rattle.std.proofs.Common.{List, sym, ap, ◌∙◌}
 use Rattle.mm_model.specs.declared.finding.What.TheVariants.{Tiling}
 use Rattle.mm_links.specs.Links.{Place, has, once}
 use Rattle.mm_check.specs.BlockQuestions.{first_gap_of}
-use Rattle.mm_check.specs.Findings.{joined, owners}
 use Rattle.mm_check.proofs.CheckLaws.{placed_inside, placed_once}
 use Rattle.mm_check.proofs.Insides.{inside_owners}
 use Rattle.mm_check.proofs.CheckSteps.{outcome_clear, outcome_finds}

@@ -1,4 +1,3 @@
-use Rattle.mm_check.proofs.CheckSteps.{finds_again}
 use Rattle.mm_check.proofs.order.check_phases.Goals as goal
 
 pub check_chained-requires : goal.check_chained-requires

@@ -1,8 +1,7 @@
-use Rattle.std.proofs.Common.{List, [], IfOk, map, ap, sym, ◌∙◌, subst, ℕ, Vec, Global}
+use Rattle.std.proofs.Common.{List, [], map, ap, sym, ◌∙◌, subst, ℕ, Vec, Global}
 use Rattle.mm_model.specs.declared.finding.What.TheVariants.{Chain}
 use Rattle.mm_links.specs.Links.{Place, has}
 use Rattle.mm_walk.specs.Walk.{AreWhole, BreaksFirst}
-use Rattle.mm_check.specs.ExtentChain.{InFile}
 use Rattle.mm_check.specs.Phases.{record_chain}
 use Rattle.mm_check.proofs.Insides.{inside_owners}
 use Rattle.mm_check.proofs.CheckSteps.{broken_finds}

@@ -1,8 +1,8 @@
-use Rattle.std.proofs.Common.{◌≡◌, ℕ, List, [], ◌∷◌, ◌++◌, true, Vec, Global, length, map, take, drop, get_or, refl, sym, ap, ◌∙◌, subst}
+use Rattle.std.proofs.Common.{ℕ, List, [], Vec, Global, map, sym, ap, ◌∙◌, subst}
 use Rattle.std.specs.Prelude.{flat_map}
 use Rattle.std.proofs.lemmas.List.{map-append, take_all, get_or_default}
-use Rattle.mm_links.specs.Links.{Place, once}
-use Rattle.mm_walk.specs.Walk.{Reading, AreWhole, BreaksFirst, Knows, seen_after}
+use Rattle.mm_links.specs.Links.{Place}
+use Rattle.mm_walk.specs.Walk.{AreWhole, Knows, seen_after}
 use Rattle.mm_check.specs.Findings.{lists_of}
 use Rattle.mm_check.specs.Phases.{owner_of}
 use Rattle.mm_check.specs.declared.owners.Owned.{Owned}

@@ -1,7 +1,6 @@
 use Rattle.std.proofs.Common.{◌≡◌, List, All, IfOk, true, map, sym, ap, ◌∙◌, subst}
 use Rattle.mm_links.specs.Links.{Place, once}
 use Rattle.mm_walk.specs.Walk.{Reading, StaysLow, Knows, AreWhole, BreaksFirst, IfBroken}
-use Rattle.mm_check.specs.Findings.{lists_of}
 use Rattle.mm_check.specs.Phases.{deleted_reading, owner_of}
 use Rattle.mm_check.specs.declared.lists.Deleted.{Deleted}
 use Rattle.mm_check.proofs.CheckLaws.{all_mapped}

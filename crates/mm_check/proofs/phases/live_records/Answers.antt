@@ -1,7 +1,6 @@
-use Rattle.std.proofs.Common.{ℕ, List, [], IfOk, map, sym, ap, ◌∙◌, subst}
-use Rattle.mm_links.specs.Links.{Place}
+use Rattle.std.proofs.Common.{List, [], IfOk, map, ap, ◌∙◌, subst}
 use Rattle.mm_walk.specs.Walk.{Reading, AreWhole, BreaksFirst, IfBroken}
-use Rattle.mm_check.specs.Phases.{reading_of, record_chain}
+use Rattle.mm_check.specs.Phases.{reading_of}
 use Rattle.mm_check.proofs.phases.live_records.Goals as goal
 
 pub returns : goal.returns

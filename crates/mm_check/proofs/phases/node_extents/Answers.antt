@@ -1,8 +1,6 @@
-use Rattle.std.proofs.Common.{ℕ, List, [], All, map, refl, sym, ap, ◌∙◌, subst}
-use Rattle.mm_links.specs.Links.{Place}
-use Rattle.mm_walk.specs.Walk.{StaysLow, Knows}
-use Rattle.mm_check.specs.ExtentChain.{KnowsExtents}
-use Rattle.mm_check.specs.Phases.{node_reading, node_chain}
+use Rattle.std.proofs.Common.{List, [], All, map, refl, sym, ap, ◌∙◌, subst}
+use Rattle.mm_walk.specs.Walk.{StaysLow}
+use Rattle.mm_check.specs.Phases.{node_reading}
 use Rattle.mm_check.specs.declared.extents.NodeExtents.{NodeExtents}
 use Rattle.mm_check.proofs.CheckLaws.{all_mapped}
 use Rattle.mm_check.proofs.ChainRows.{row_whole, row_seen, row_broken}

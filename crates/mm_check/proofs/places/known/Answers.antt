@@ -1,4 +1,4 @@
-use Rattle.std.proofs.Common.{List, sym, ap, ◌∙◌, ◌++◌, ◌∷◌, [], subst, take, get_or}
+use Rattle.std.proofs.Common.{List, sym, subst, take}
 use Rattle.std.proofs.lemmas.List.{take_more, take_all}
 use Rattle.mm_links.specs.Links.{Place}
 use Rattle.mm_walk.specs.Walk.{Knows}

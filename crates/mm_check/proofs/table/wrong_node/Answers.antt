@@ -3,9 +3,7 @@ use Rattle.std.specs.BTreeSet.{BTreeSet}
 use Rattle.mm_ranges.specs.declared.limits.TheConstants.{NS_FILE}
 use Rattle.mm_nstable.specs.Nodes.{count_of}
 use Rattle.mm_records.specs.Stands.{ns_in}
-use Rattle.mm_links.specs.Links.{Place}
-use Rattle.mm_check.specs.NodeForms.{IsForms}
-use Rattle.mm_check.specs.NodeQuestions.{free_name, indexes_name, has_name, node_right}
+use Rattle.mm_check.specs.NodeQuestions.{free_name, indexes_name, node_right}
 use Rattle.mm_check.specs.SeenNames.{KnowsNames}
 use Rattle.mm_check.proofs.SeenLaws.{seen_none}
 use Rattle.mm_check.proofs.NodeLoops.{node_wrong, names_all, free_missing, indexes_missing, none_missing, right_next, seen_name}
