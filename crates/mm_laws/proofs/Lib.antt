@@ -11,3 +11,5 @@ pub mod ByKind
 pub mod Elements
 pub mod First
 pub mod Ending
+pub mod Changing
+pub mod Conditions

@@ -5,3 +5,5 @@ pub mod Made
 pub mod Refusing
 pub mod Examples
 pub mod Fields
+pub mod Changing
+pub mod Conditions

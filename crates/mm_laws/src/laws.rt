@@ -1,6 +1,8 @@
 //! Laws of commands and of scripts, each the contract of a function that does nothing.
 
 ghost use Rattle.mm_laws.specs.Answering.{EnsureCounts, DropCounts, TooLargeComesFirst};
+ghost use Rattle.mm_laws.specs.Changing.{IncPuts, PushMakesArray, UnsetLeaves, NarrowStays, NarrowWidens, WideStays, OperandWidens};
+ghost use Rattle.mm_laws.specs.Conditions.{FieldsJoin, InIsSomeEquality, ExistsTells, AbsenceTells};
 ghost use Rattle.mm_laws.specs.Examples.{MadeIdInFront, MadeIdFound, NoType, OneMore, NoText, OtherText};
 ghost use Rattle.mm_laws.specs.Fields.{FirstBytesDecide, TypesDecide, DepthsDecide, SizesDecide, NamesDecide};
 ghost use Rattle.mm_laws.specs.Finding.{FindsWhatMatches, FindsById, FindsByKey};
@@ -86,4 +88,33 @@ pub fn worked_faults()
     ensures longer { OneMore }
     ensures text { NoText }
     ensures other { OtherText }
+{}
+
+/// Where a path leads to nothing, `$inc` puts its number, `$push` makes an
+/// array of its value, and `$unset` leaves the document as it is.
+pub fn nothing_is_there()
+    ensures inc { IncPuts }
+    ensures push { PushMakesArray }
+    ensures unset { UnsetLeaves }
+{}
+
+/// A sum of two int32 is an int32 where that holds it; any other is an int64.
+pub fn inc_keeps_widths()
+    ensures narrow { NarrowStays }
+    ensures wider { NarrowWidens }
+    ensures wide { WideStays }
+    ensures operand { OperandWidens }
+{}
+
+/// A filter's fields all have to match, in whatever order they stand.
+pub fn conditions_join()
+    ensures { FieldsJoin }
+{}
+
+/// `$in` is equality to some of its values, and `$exists` tells whether its path
+/// leads to a value.
+pub fn operators_tell()
+    ensures some { InIsSomeEquality }
+    ensures there { ExistsTells }
+    ensures absent { AbsenceTells }
 {}

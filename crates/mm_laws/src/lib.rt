@@ -1,4 +1,5 @@
-//! More laws of what commands make of a database, and of which bytes are a script. Definitions and laws alone: no code stands here.
+//! More laws of what commands, changes and filters make of documents and of a database, and of which bytes are a document or a script.
+//! Definitions and laws alone: no code stands here.
 //!
 //! - A command is refused for want of nodes exactly where the database that it would leave takes more than there are; where a collection is
 //!   dropped, there is room for another.
@@ -8,6 +9,9 @@
 //! - The document that a script's insert puts in for one without `_id` has the made one in front, and is found by it alone.
 //! - Of two inputs of as many bytes that agree up to the end of the field at which the one's first fault as a document lies, the other has the
 //!   same fault.
+//! - Where a path leads to nothing, `$inc` puts its number, `$push` an array of its value, and `$unset` leaves the document; a sum of two int32
+//!   is an int32 where that holds it, and an int64 else; `$in` is equality to some of its values, `$exists` tells whether a value is there, and
+//!   a filter's fields all have to match, in any order.
 //!
 //! Nothing here is promised of engines: that they answer as `after` does is proved where they stand.
 #![tactic(auto)]
@@ -15,7 +19,8 @@
 mod laws;
 
 pub use laws::{
-    bytes_are_judged, faults_tell_ends, finds_are_sorted, finds_give_what_matches,
-    first_bytes_decide, indexing_counts_indexes, made_ids_are_found, nodes_are_counted,
-    room_comes_back, too_large_comes_first, worked_examples, worked_faults,
+    bytes_are_judged, conditions_join, faults_tell_ends, finds_are_sorted, finds_give_what_matches,
+    first_bytes_decide, inc_keeps_widths, indexing_counts_indexes, made_ids_are_found,
+    nodes_are_counted, nothing_is_there, operators_tell, room_comes_back, too_large_comes_first,
+    worked_examples, worked_faults,
 };
