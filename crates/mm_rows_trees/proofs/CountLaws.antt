@@ -1,5 +1,5 @@
 -- A collection's details count one index.
-use Rattle.std.proofs.Common.{◌≡◌, ◌≢◌, ℕ, ℤ, pos, ◌<◌, true, false, Bool, cond, List, length, Option, Some, refl, sym, ◌∙◌, ap, subst, arith}
+use Rattle.std.proofs.Common.{◌≡◌, ℕ, ℤ, pos, ◌<◌, true, false, Bool, cond, List, length, Some, refl, sym, ◌∙◌, ap, subst, arith}
 use Rattle.std.proofs.lemmas.Int.{ints}
 use Rattle.std.specs.Prelude.{◌≤ℤ◌}
 use Rattle.std.specs.FinMap.{get, insert, get-insert}
@@ -14,7 +14,7 @@ use Rattle.mm_nstable.specs.Nodes.{SameNames, IsTable, node_at, details_in, is_u
 use Rattle.mm_nstable.specs.Table.{Held, table_of}
 use Rattle.mm_nstable.proofs.Tables.{table_at}
 use Rattle.mm_extents.specs.Changes.{len_of}
-use Rattle.mm_records.specs.Constants.{HasConstants, is_name, is_collection}
+use Rattle.mm_records.specs.Constants.{HasConstants, is_collection}
 use Rattle.mm_records.specs.Shape.{Shape}
 use Rattle.mm_records.specs.Stands.{Stands, DetailsStand, IsNode, ns_in}
 use Rattle.mm_records.specs.Map.{name_at}
@@ -84,7 +84,7 @@ module _ (old new : Image) (owner : ℕ) (d : Details) (read : d ≡ details_in 
       let there = table_at (ns_in new) owner (name_at old owner) kept (names.used owner ∙ used) (names.names owner used) in
       let own = name_own (name_at old owner) (name_at old owner) refl in
       let e = sym there ∙ ap (λ t. get t (name_at old owner)) table ∙ get-insert nat_list_cmp_total (table_of (ns_in old)) (name_at old owner) now (name_at old owner)
-          ∙ ap (λ (b : Bool). cond b (Some now) (get (table_of (ns_in old)) (name_at old owner))) own in
+      ∙ ap (λ (b : Bool). cond b (Some now) (get (table_of (ns_in old)) (name_at old owner))) own in
       ap (λ (h : Held). h.details) (one _ now e)
 
   stands_again : (free : List ℕ) (s : Shape) → Stands old free s → IsNode old free owner → Stands new free s
@@ -93,19 +93,19 @@ module _ (old new : Image) (owner : ℕ) (d : Details) (read : d ≡ details_in 
       let w = in_hand old free s owner (details_in (node_at (ns_in old) owner)) st n there in
       let own : DetailsStand s (name_at old owner) d = subst (λ (x : Details). DetailsStand s (name_at old owner) x) (sym read) w.own in
       let w' : StandsWith old free s owner (with_one d) = record {
-          files = w.files;
-          table = w.table;
-          heap = w.heap;
-          tiled = w.tiled;
-          extents = w.extents;
-          owners = w.owners;
-          records = w.records;
-          lists = w.lists;
-          is_node = w.is_node;
-          own = details_stand s (name_at old owner) d kind none own;
-          others = w.others;
-          free_chain = w.free_chain;
-        } in
+        files = w.files;
+        table = w.table;
+        heap = w.heap;
+        tiled = w.tiled;
+        extents = w.extents;
+        owners = w.owners;
+        records = w.records;
+        lists = w.lists;
+        is_node = w.is_node;
+        own = details_stand s (name_at old owner) d kind none own;
+        others = w.others;
+        free_chain = w.free_chain;
+      } in
       put_back old free s owner (with_one d) w' new lengths files table kept
 
   pub is_counted : IsCounted old new owner

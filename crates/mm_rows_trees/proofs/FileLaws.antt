@@ -5,10 +5,9 @@ use Rattle.std.specs.Prelude.{◌<ℤ◌, is_some, if◌then◌else◌, IfSome, 
 use Rattle.std.specs.Option.{option_map}
 use Rattle.std.specs.FinMap.{get, get-empty}
 use Rattle.std.specs.Ordering.{nat_cmp}
-use Rattle.mm_base.specs.declared.place.DiskLoc.{DiskLoc}
 use Rattle.mm_ranges.specs.Overlay.{Image}
 use Rattle.mm_views.specs.State.{State, Drafting, no_views, drafting_of}
-use Rattle.mm_nstable.specs.Nodes.{SameNames, name_in, node_at, is_used, details_in}
+use Rattle.mm_nstable.specs.Nodes.{SameNames, is_used}
 use Rattle.mm_nstable.specs.Table.{Held}
 use Rattle.mm_nstable.specs.FreeChain.{IsFreeName}
 use Rattle.mm_links.specs.Links.{Place}
@@ -19,7 +18,7 @@ use Rattle.mm_records.specs.Stands.{Stands, IsNode, ns_in}
 use Rattle.mm_records.specs.Map.{extent_of, owner, live_room, live_at, name_at}
 use Rattle.mm_namespaces.specs.Fresh.{HasNothing}
 use Rattle.mm_trees.specs.Walked.{spot_in}
-use Rattle.mm_trees.specs.Buckets.{Holds, node_in, shown_there, bucket_in}
+use Rattle.mm_trees.specs.Buckets.{Holds, node_in, shown_there}
 use Rattle.mm_trees.specs.Indexes.{IsUnmade}
 use Rattle.mm_trees.proofs.Showing.{bucket_is}
 use Rattle.mm_rows_trees.specs.Ready.{IsBare, IsOfRecords, IsNodeOf, IsCounted, AreReady}
@@ -86,10 +85,10 @@ unmade image node owner r =
     let b = r.bare in
     let st = b.1.1.0 in
     let h : Holds image b.0 b.1.0 node = record {
-        stands = st;
-        is_node = is_node image node r.index b.0 b.1.0 st;
-        rooms = λ p room e. absurd (let z : None ≡ Some room = sym (live_none b.1.0 b.1.1.1 (name_at image node) p) ∙ e in cc);
-      } in
+      stands = st;
+      is_node = is_node image node r.index b.0 b.1.0 st;
+      rooms = λ p room e. absurd (let z : None ≡ Some room = sym (live_none b.1.0 b.1.1.1 (name_at image node) p) ∙ e in cc);
+    } in
     record {
       free = b.0;
       shape = b.1.0;

@@ -1,3 +1,4 @@
 mod CountLaws
 mod FileLaws
+mod IndexLaws
 mod NameFacts

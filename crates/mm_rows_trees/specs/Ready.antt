@@ -1,8 +1,7 @@
 -- What holds of a draft between two calls of a test.
-use Rattle.std.specs.Prelude.{◌≡◌, ◌<ℤ◌, ℕ, pos, true, List}
+use Rattle.std.specs.Prelude.{◌≡◌, ℕ, pos, true, List}
 use Rattle.mm_bson.specs.Tree.{Elements}
 use Rattle.mm_ranges.specs.Overlay.{Image}
-use Rattle.mm_frames.specs.declared.details.Details.{Details}
 use Rattle.mm_nstable.specs.Nodes.{SameNames, is_used, details_in, node_at}
 use Rattle.mm_nstable.specs.FreeChain.{IsFreeName}
 use Rattle.mm_records.specs.Shape.{Shape}

@@ -135,7 +135,14 @@ fn drill_in(
     let coming = ordered(alloc, order, count, 1)?;
     let going = ordered(alloc, Order::Drawn, count, 2)?;
     let tree = made(alloc, draft)?;
-    come_and_go(alloc, draft, &tree, keys, coming.as_slice(), going.as_slice())
+    come_and_go(
+        alloc,
+        draft,
+        &tree,
+        keys,
+        coming.as_slice(),
+        going.as_slice(),
+    )
 }
 
 fn drill(alloc: Global, keys: Keys, order: Order, count: u32) -> Result<Found, TreeFault> {

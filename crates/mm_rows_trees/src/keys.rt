@@ -39,7 +39,14 @@ fn digit(i: u32, unit: u32) -> u8 {
 fn long(i: u32) -> [u8; 1024] {
     let mut bytes = [b'a'; 1024];
     put_bytes(&mut bytes, 0, b"\0\x04\0\0\x02\0\xf5\x03\0\0");
-    let digits = [digit(i, 1000), digit(i, 100), digit(i, 10), digit(i, 1), 0, 0];
+    let digits = [
+        digit(i, 1000),
+        digit(i, 100),
+        digit(i, 10),
+        digit(i, 1),
+        0,
+        0,
+    ];
     put_bytes(&mut bytes, 1018, &digits);
     bytes
 }

@@ -1,0 +1,26 @@
+use Rattle.mm_bson.specs.Spelling.{spelling}
+use Rattle.mm_btree.specs.Nodes.{Item}
+use Rattle.mm_btree.specs.Removal.{without}
+use Rattle.mm_rows_trees.proofs.IndexLaws.{may_put, some_put}
+use Rattle.mm_rows_trees.proofs.index.put.Goals as goal
+
+pub insert-requires-clause-index : goal.insert-requires-clause-index
+insert-requires-clause-index c =
+    let t = c.args.tree.now in
+    let x : Item = record { key = spelling c.args.key.now; rec = c.args.rec } in
+    let h = c.requires.index in
+    let e = c.in_ok-remove.ensures in
+    may_put c.args.draft.now c.remove.new.draft t.store.node t.owner t.position t.spec x h (e.kept c.if-branch.false) ((e.there h.0 h.1).0 c.if-branch.false)
+
+pub returns-then-branch : goal.returns-then-branch
+returns-then-branch c =
+    let h = c.requires.index in
+    (without c.args.tree.now.spec (record { key = spelling c.args.key.now; rec = c.args.rec }) h.0, c.in_ok-remove.ensures.out c.if-branch.true h.0 h.1)
+
+pub returns : goal.returns
+returns c =
+    let t = c.args.tree.now in
+    let x : Item = record { key = spelling c.args.key.now; rec = c.args.rec } in
+    let h = c.requires.index in
+    let e = c.in_ok-remove.ensures in
+    some_put c.args.draft.now c.remove.new.draft c.insert.new.draft t.store.node t.owner t.position t.spec x h (e.kept c.if-branch.false) ((e.there h.0 h.1).0 c.if-branch.false) c.in_ok-insert.ensures.ok
