@@ -3,6 +3,7 @@ use Rattle.std.proofs.Common.{◌≡◌, ℕ, suc, List, [], ◌∷◌, length, 
 use Rattle.std.specs.Result.{OnOk}
 use Rattle.mm_ranges.specs.Overlay.{Image}
 use Rattle.mm_links.specs.Links.{Place}
+use Rattle.mm_model.specs.declared.finding.Finding.{Finding}
 use Rattle.mm_model.specs.declared.finding.What.{What}
 use Rattle.mm_model.specs.declared.finding.CheckFault.{CheckFault}
 use Rattle.mm_model.specs.declared.finding.CheckFault.TheVariants.{Found, NoMemory}
@@ -11,7 +12,7 @@ use Rattle.mm_walk.specs.declared.walk.Broken.TheVariants as broken
 use Rattle.mm_walk.specs.Walk.{IfBroken}
 use Rattle.mm_check.specs.Findings.{joined, nodes_in, extent_chains, Clear5}
 use Rattle.mm_check.specs.Phases.{node_chain}
-use Rattle.mm_check.specs.TheCheck.{IsFinding, Finds, IsFault, IsOutcome}
+use Rattle.mm_check.specs.TheCheck.{IsFinding, IfFound, Finds, IsFault, IsOutcome}
 use Rattle.mm_check.proofs.CheckLaws.{whole_lengths}
 
 -- what was found at a place is the finding
@@ -30,6 +31,15 @@ broken_finds T U d image w P broken.NoMemory f e h g = memory_finds U d image f 
 pub finds_again : (T U : Type 0) (d : List ℕ) (image : Image) (f : CheckFault) → Finds {T = T} d image (Err f) → Finds {T = U} d image (Err f)
 finds_again T U d image (Found x) h = h
 finds_again T U d image NoMemory h = tt
+
+-- what holds of a finding, where any is found, and by the next call too
+pub found_all : (U : Type 0) (f : CheckFault) (P : Type 0) → P → IfFound {T = U} (Err f) (λ x. P)
+found_all U (Found x) P h = h
+found_all U NoMemory P h = tt
+
+pub found_again : (T U : Type 0) (f : CheckFault) (P : Finding → Type 0) → IfFound {T = T} (Err f) P → IfFound {T = U} (Err f) P
+found_again T U (Found x) P h = h
+found_again T U NoMemory P h = tt
 
 pub broken_mapped : (T U : Type 0) (b : Broken) (P Q : Place → Type 0) → ((at : Place) → P at → Q at) → IfBroken {T = T} (Err b) P → IfBroken {T = U} (Err b) Q
 broken_mapped T U (broken.At at) P Q f h = f at h

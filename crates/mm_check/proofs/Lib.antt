@@ -26,6 +26,7 @@ pub mod PhaseLoops
 pub mod NodeLoops
 pub mod OneFinding
 pub mod CheckSteps
+pub mod ReportLaws
 pub mod FoundExtents
 pub mod FoundAreas
 pub mod CheckLaws

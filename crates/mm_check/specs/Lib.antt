@@ -14,4 +14,5 @@ pub mod FoundShape
 pub mod SeenNames
 pub mod BlockMap
 pub mod TheCheck
+pub mod Reports
 pub mod PhaseOrder

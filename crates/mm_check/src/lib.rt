@@ -8,10 +8,10 @@
 //!   (`ListLaws`, `ListsBack`), the blocks of an extent (`BlockLaws`, `BlocksBack`) and the constant fields of details (`CountLaws`). That
 //!   extents tile each file is said from the check to what stands (`AreaLaws`, `Tiled`).
 //! - What the phases up to `chain` find meets the premises of their laws (`FoundExtents`, `FoundAreas`, `FoundRecords`).
-//! - `check_files` runs the phases in a row: it answers Ok exactly where none of them finds anything, else the first finding, and no other
-//!   finding is the first. Each phase is a call of its own: `wrong_file`, `wrong_node` within the crate, `file_extents`, `node_extents`,
-//!   `first_lost`, `live_records`, `deleted_blocks`, `first_gap_of` and `wrong_counts`. Those that follow chains answer all places exactly
-//!   where each chain is whole, else the one place that is first wrong.
+//! - `check` answers a report exactly where no phase finds anything or no file is there, else the first finding, and no other finding is the
+//!   first. `check_files` runs the phases in a row. Each phase is a call of its own: `wrong_file`, `wrong_node` within the crate,
+//!   `file_extents`, `node_extents`, `first_lost`, `live_records`, `deleted_blocks`, `first_gap_of` and `wrong_counts`. Those that follow
+//!   chains answer all places exactly where each chain is whole, else the one place that is first wrong.
 //!
 //! The laws of single phases aren't joined to one law on all of them yet. Each walk ends on any bytes. Want of memory has its own answer.
 #![tactic(auto)]
@@ -34,6 +34,7 @@ mod owners;
 mod phases;
 mod places;
 mod records;
+mod report;
 mod table;
 
 pub use counts::wrong_counts;
@@ -44,3 +45,4 @@ pub use order::check_files;
 pub use owners::Owned;
 pub use phases::{deleted_blocks, file_extents, live_chains, live_records, node_extents};
 pub use records::Records;
+pub use report::{Report, check};

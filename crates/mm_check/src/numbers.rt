@@ -104,6 +104,13 @@ pub(crate) fn size(z: i32) -> u32
     if z < 0 { 0 } else { z as u32 }
 }
 
+// A count that isn't negative; 0 for one that is.
+pub(crate) fn count(z: i64) -> u64
+    ensures { result ≡ nat_of z }
+{
+    if z < 0 { 0 } else { z as u64 }
+}
+
 // The number where it isn't negative.
 pub(crate) fn offset(z: i32) -> Option<u32>
     ensures { result ≡ nat_in z }
