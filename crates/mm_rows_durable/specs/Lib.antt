@@ -1,0 +1,4 @@
+pub mod Toy
+pub mod Sides
+pub mod Benches
+pub mod Closings
