@@ -151,19 +151,21 @@ fn drill(alloc: Global, keys: Keys, order: Order, count: u32) -> Result<Found, T
 }
 
 // The keys, the order, how many pairs, and how many buckets they have at the least and at the most.
-const DRILLS: [(Keys, Order, u32, i64, i64); 7] = [
+const DRILLS: [(Keys, Order, u32, i64, i64); 9] = [
     (Keys::Numbers, Order::Rising, 281, 1, 1),
     (Keys::Numbers, Order::Rising, 282, 3, 3),
     (Keys::Numbers, Order::Rising, 3000, 12, 24),
     (Keys::Numbers, Order::Falling, 3000, 12, 24),
     (Keys::Numbers, Order::Drawn, 3000, 12, 24),
     (Keys::Equal, Order::Drawn, 3000, 12, 24),
+    (Keys::Long, Order::Rising, 7, 1, 1),
+    (Keys::Long, Order::Rising, 8, 3, 3),
     // more than 73 buckets of at most eight children each are four levels
     (Keys::Long, Order::Drawn, 3000, 429, 1500),
 ];
 
-// Pairs come in rising, falling and drawn orders, and go in a drawn one. 281 keys of 11 bytes fit a bucket, and one more parts it; once all are gone
-// there is one bucket, without keys.
+// Pairs come in rising, falling and drawn orders, and go in a drawn one. 281 keys of 11 bytes fit a bucket, and seven of 1024, and one more
+// parts it; once all are gone there is one bucket, without keys.
 #[test]
 fn indexes_list_their_pairs(rt: HostRuntime) -> Result<(), Fail> {
     for (keys, order, count, least, most) in DRILLS {
