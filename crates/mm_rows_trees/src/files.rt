@@ -3,10 +3,8 @@
 ghost use Rattle.std.specs.Prelude.{◌≡◌, ℕ, None, true, false, pos, IfSome, IfOk, OnOk};
 ghost use Rattle.std.specs.FinMap.{get};
 ghost use Rattle.mm_nstable.specs.FreeChain.{IsFreeName};
-ghost use Rattle.mm_nstable.specs.Nodes.{details_in, node_at};
 ghost use Rattle.mm_records.specs.Constants.{is_collection};
 ghost use Rattle.mm_records.specs.Map.{name_at};
-ghost use Rattle.mm_records.specs.Stands.{ns_in};
 ghost use Rattle.mm_rows_trees.specs.Ready.{IsBare, IsOfRecords, IsNodeOf, AreReady, IsCounted};
 
 use crate::names::{collection, free_chain, index, indexes};
