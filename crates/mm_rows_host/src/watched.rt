@@ -1,6 +1,7 @@
-//! A system that writes down what it is asked.
+//! A system that writes down what it is asked, and takes and gives a limited number of bytes at a time.
 
-use std::alloc::{Allocator, Global};
+use mm_host::FolderDisk;
+use std::alloc::{AllocError, Allocator, Global};
 use std::cell::RefCell;
 use std::fs::{self, File, Metadata, OpenFile, OpenOptions};
 use std::io::{self, ErrorKind, Read, Seek, SeekFrom, Write};
@@ -18,26 +19,42 @@ pub fn fresh_folder(rt: HostRuntime, name: &str) -> Result<String, Fail> {
     Ok(folder)
 }
 
-/// The real files, and all that they were asked to make, write, cut, take and sync. F stands for the disk's folder.
+/// The real files, with at most so many bytes at each read and write, and all that they were asked to make, write, cut,
+/// take and sync. F stands for the disk's folder.
 #[derive(Clone, Copy)]
 pub struct Watched<'a> {
     pub rt: HostRuntime,
     pub folder: &'a str,
     pub asked: &'a RefCell<String>,
+    pub most: usize,
+}
+
+/// Appends words to a text that is shared.
+pub fn append(text: &RefCell<String>, words: &[&str]) -> io::Result<()> {
+    match text.try_borrow_mut() {
+        Ok(mut text) => Ok(push_all(&mut text, words)?),
+        Err(_) => Err(io::Error::from(ErrorKind::ResourceBusy)),
+    }
+}
+
+fn push_all(text: &mut String, words: &[&str]) -> Result<(), AllocError> {
+    for word in words {
+        text.push_str(word)?;
+    }
+    Ok(())
 }
 
 impl Watched<'_> {
     fn note(&self, what: &str, path: &str) -> io::Result<()> {
-        let Ok(mut asked) = self.asked.try_borrow_mut() else {
-            return Err(io::Error::from(ErrorKind::ResourceBusy));
-        };
         let name = path.strip_prefix(self.folder).unwrap_or(path);
-        asked.push_str(what)?;
-        asked.push_str(" F")?;
-        asked.push_str(name)?;
-        asked.push_str("; ")?;
-        Ok(())
+        append(self.asked, &[what, " F", name, "; "])
     }
+}
+
+/// The real folder over such a system.
+pub fn disk_over(system: Watched<'_>) -> Result<FolderDisk<Watched<'_>>, AllocError> {
+    let folder = String::from_str(system.rt.alloc(), system.folder)?;
+    Ok(FolderDisk::new(system, folder))
 }
 
 #[derive(Drop)]
@@ -57,13 +74,15 @@ impl Alloc for Watched<'_> {
 
 impl Read for WatchedFile<'_> {
     fn read(&mut self, buf: &mut [u8]) -> io::Result<usize> {
-        self.file.read(buf)
+        let most = self.system.most.min(buf.len());
+        self.file.read(&mut buf[..most])
     }
 }
 
 impl Write for WatchedFile<'_> {
     fn write(&mut self, buf: &[u8]) -> io::Result<usize> {
-        let count = self.file.write(buf)?;
+        let most = self.system.most.min(buf.len());
+        let count = self.file.write(&buf[..most])?;
         self.system.note("write", self.path.as_str())?;
         Ok(count)
     }
