@@ -2,7 +2,6 @@
 
 use crate::outside::Ask::{Create, Len, Moment, Names, Read, Remove, SetLen, Sync, Write};
 use crate::outside::{Ask, told};
-use crate::system::Grudging;
 use mm_host::FolderDisk;
 use std::alloc::AllocError;
 use std::os::unix::fs::symlink;
@@ -229,45 +228,5 @@ fn folders_that_cannot_be(rt: HostRuntime) -> Result<(), Fail> {
     let asks = [Names, Create("test.0"), Moment];
     let text = told_of_no_folders(rt, folder.as_str(), &asks)?;
     assert_eq!(rt; text.as_str(), "; fault; 1; fault; fault; 1; ");
-    Ok(())
-}
-
-/// What a disk answers whose system takes and gives so many bytes at most.
-fn told_grudgingly(
-    rt: HostRuntime,
-    most: usize,
-    folder: &str,
-    asks: &[Ask],
-) -> Result<String, AllocError> {
-    let folder = String::from_str(rt.alloc(), folder)?;
-    let mut disk = FolderDisk::new(Grudging { rt, most }, folder);
-    told(rt.alloc(), &mut disk, asks)
-}
-
-/// What a disk answers whose system gives two bytes at most, then one whose system gives none, and at last another.
-fn told_of_short(rt: HostRuntime, folder: &str) -> Result<String, Fail> {
-    let asks = [
-        Create("test.0"),
-        Write("test.0", 1, b"abcde"),
-        Read("test.0", 0),
-        Read("test.0", 1),
-    ];
-    let mut out = told_grudgingly(rt, 2, folder, &asks)?;
-    let asks = [Write("test.0", 0, b"x"), Write("test.0", 0, b""), Moment];
-    out.push_str(told_grudgingly(rt, 0, folder, &asks)?.as_str())?;
-    out.push_str(told_of(rt, folder, &[Read("test.0", 0)])?.as_str())?;
-    clear(rt, folder)?;
-    Ok(out)
-}
-
-/// Reads and writes go on where the system takes or gives few bytes, and stop where it takes none.
-#[test]
-fn short_reads_and_writes(rt: HostRuntime) -> Result<(), Fail> {
-    let folder = fresh_folder(rt, "short")?;
-    let text = told_of_short(rt, folder.as_str())?;
-    assert_eq!(rt;
-        text.as_str(),
-        "ok; ok; 6 [0, 97, 98, 99, 100, 101]; 5 [97, 98, 99, 100, 101, 7]; fault; ok; 2; 6 [0, 97, 98, 99, 100, 101]; "
-    );
     Ok(())
 }

@@ -24,6 +24,4 @@ mod ranges;
 #[cfg(test)]
 mod streams;
 #[cfg(test)]
-mod system;
-#[cfg(test)]
 mod views;
