@@ -2,11 +2,9 @@
 use Rattle.std.proofs.Common.{◌≡◌, ℕ, ◌+◌, ◌<◌, ◌≤◌, List, [], ◌∷◌, ◌++◌, Some, Option, Result, Ok, Err, IfOk, OnOk, OnErr, length, refl, sym, ◌∙◌, ap, subst, arith, slice_get, sum, zero, suc}
 use Rattle.std.specs.Prelude.{true, slice_index, slice_index_or, ◌^◌}
 use Rattle.std.proofs.lemmas.List.{length_push}
-use Rattle.std.specs.List.{remove}
 use Rattle.mm_ranges.specs.declared.part.Closed.{Closed}
 use Rattle.mm_model.specs.declared.command.Command.{Command}
 use Rattle.mm_tie.specs.Ends.{taken, taker_ring}
-use Rattle.mm_tie.specs.declared.ends.Taker.{Taker}
 use Rattle.mm_held.specs.declared.pass.Pass.{Pass}
 use Rattle.mm_held.specs.declared.pass.Mark.{Mark}
 use Rattle.mm_held.specs.declared.held.Done.{Done}
@@ -15,7 +13,7 @@ use Rattle.mm_probe.specs.Counts.{counted, report_of}
 use Rattle.mm_views.specs.State.{State, part_of}
 use Rattle.mm_held.specs.Images.{IsApplied, item}
 use Rattle.mm_held.specs.Log.{IsAboveLast, mark}
-use Rattle.mm_held.specs.Held.{HeldView, IsSeated, IsEntered, IsStarted, IsNewPass, AreNewPasses, Closes, Telling, entry, log_of, section_of}
+use Rattle.mm_held.specs.Held.{HeldView, IsEntered, IsStarted, IsNewPass, AreNewPasses, Closes, Telling, entry, log_of, section_of}
 use Rattle.std.specs.FinMap.{empty}
 use Rattle.mm_ranges.specs.Overlay.{Image}
 use Rattle.mm_held.specs.Meaning.{Meaning, Stored}

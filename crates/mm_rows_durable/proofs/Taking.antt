@@ -1,17 +1,16 @@
 -- Databases that close, one after another.
-use Rattle.std.proofs.Common.{◌≡◌, inl, inr, ◌⊎◌, ⊎_elim, ℕ, zero, suc, ◌+◌, ◌<◌, ◌≤◌, ◌==◌, Bool, true, false, List, [], ◌∷◌, ◌++◌, length, get_or, slice_get, slice_set, map, Some, refl, sym, ◌∙◌, ap, subst, arith}
+use Rattle.std.proofs.Common.{◌≡◌, inl, inr, ◌⊎◌, ⊎_elim, ℕ, zero, suc, ◌+◌, ◌<◌, ◌==◌, true, false, List, [], ◌∷◌, ◌++◌, length, get_or, slice_get, slice_set, Some, refl, sym, ◌∙◌, ap, subst, arith}
 use Rattle.std.proofs.lemmas.Bool.Decides.{nat_tests}
 use Rattle.std.proofs.lemmas.List.{length-append, length-map, length-set, get_or-set_same, get_or-set_other}
 use Rattle.std.proofs.lemmas.Option.{get_or_from_slice_get, slice_get_within, same_Some}
 use Rattle.mm_ranges.specs.declared.part.Closed.{Closed}
 use Rattle.mm_tie.specs.Ends.{Ring, taken}
-use Rattle.mm_durable.specs.Log.{HasMore, KeepsRun, sealed}
-use Rattle.mm_durable.specs.Intake.{HasEntry, HasTaken, KeepsFeeds, lists, rings}
+use Rattle.mm_durable.specs.Log.{sealed}
+use Rattle.mm_durable.specs.Intake.{HasEntry, HasTaken, KeepsFeeds, lists}
 use Rattle.mm_durable.specs.Durable.{IsOrderly, AllClosed, is_ready, has_closed}
 use Rattle.mm_durable.specs.declared.log.Log.{Log}
 use Rattle.mm_durable.specs.declared.durable.Durable.{Durable}
 use Rattle.mm_durable.proofs.Sealed.{seats_full, not_closed}
-use Rattle.mm_rows_durable.specs.Sides.{IsSide}
 use Rattle.mm_rows_durable.specs.Benches.{IsBench}
 use Rattle.mm_rows_durable.specs.Closings.{MayTake, Takes, IsTurned, IsClosing, IsEntered, IsWaiting}
 use Rattle.mm_rows_durable.specs.declared.subject.Side.{Side}

@@ -1,6 +1,6 @@
 -- What the tests know of a database that they hold, so that each call may be made.
 use Rattle.std.specs.Prelude.{◌≡◌, ℕ, ◌<◌, ◌≤◌, true, length, Some, slice_get}
-use Rattle.mm_tie.specs.Ends.{taken, taker_ring}
+use Rattle.mm_tie.specs.Ends.{taken}
 use Rattle.mm_held.specs.declared.pass.Pass.{Pass}
 use Rattle.mm_held.specs.Log.{IsAboveLast}
 use Rattle.mm_held.specs.Held.{HeldView, IsSeated}

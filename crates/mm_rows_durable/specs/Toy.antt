@@ -1,5 +1,4 @@
 -- What the toy engine of the tests means: each image stands for each database, and each command is carried out on it, with nothing changed.
-use Rattle.std.specs.Prelude.{ℕ}
 use Rattle.mm_model.specs.declared.reply.Reply.TheVariants.{Done}
 use Rattle.mm_held.specs.Meaning.{Meaning}
 

@@ -1,8 +1,7 @@
-use Rattle.std.proofs.Common.{◌≡◌, ◌+◌, ◌<◌, Some, length, refl, sym, ◌∙◌, ap, arith}
+use Rattle.std.proofs.Common.{◌+◌, Some, length, refl, sym, ◌∙◌, ap, arith}
 use Rattle.mm_views.specs.State.{part_of}
 use Rattle.mm_held.specs.Images.{item}
 use Rattle.mm_held.specs.Held.{section_of}
-use Rattle.mm_rows_durable.specs.declared.subject.Side.{Side}
 use Rattle.mm_rows_durable.proofs.Seats.{closed_side}
 use Rattle.mm_rows_durable.proofs.Taking.{Took, has_now, others_same, entered_now}
 use Rattle.mm_rows_durable.proofs.closing.close.Goals as goal

@@ -1,4 +1,4 @@
-use Rattle.std.proofs.Common.{◌≡◌, length, refl, arith}
+use Rattle.std.proofs.Common.{refl}
 use Rattle.std.proofs.lemmas.List.{length-set}
 use Rattle.mm_rows_durable.proofs.Seats.{on_ok}
 use Rattle.mm_rows_durable.proofs.Keeping.{there, on_ok1}

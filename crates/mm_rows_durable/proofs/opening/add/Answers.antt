@@ -1,4 +1,4 @@
-use Rattle.std.proofs.Common.{◌∷◌, [], ◌∙◌, ap, length}
+use Rattle.std.proofs.Common.{◌∙◌, ap, length}
 use Rattle.std.proofs.lemmas.List.{length_push}
 use Rattle.mm_rows_durable.proofs.Keeping.{fed_pushed}
 use Rattle.mm_rows_durable.proofs.opening.add.Goals as goal

@@ -1,6 +1,5 @@
-use Rattle.std.proofs.Common.{◌≡◌, ◌<◌, ◌≤◌, List, length, ap, arith, ◌∙◌, rules}
+use Rattle.std.proofs.Common.{◌≡◌, length, ap, arith, ◌∙◌, rules}
 use Rattle.std.specs.Vec.{vec_len}
-use Rattle.mm_ranges.specs.declared.part.Closed.{Closed}
 use Rattle.mm_rows_durable.specs.Toy.{toy}
 use Rattle.mm_rows_durable.proofs.Seats.{stands_always, rooms_some, rooms_sum, room_is, one_pass, sat_first}
 use Rattle.mm_rows_durable.proofs.side.begin_with.Goals as goal

@@ -1,4 +1,4 @@
-use Rattle.std.proofs.Common.{◌<◌, arith}
+use Rattle.std.proofs.Common.{arith}
 use Rattle.mm_rows_durable.proofs.Seats.{telling, stepped}
 use Rattle.mm_rows_durable.proofs.side.step_in.Goals as goal
 
