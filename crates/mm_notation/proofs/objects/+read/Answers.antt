@@ -32,7 +32,7 @@ element-returns-in_ok-put_head-in-Array-clause-wrote t c =
 pub element-returns-in_default-clause-wrote : goal.element-returns-in_default-clause-wrote
 element-returns-in_default-clause-wrote t c =
     element_leaf (λ (r : Bor (List ℕ)). r.now) c.args.name.now c.args.out.now.items c.plain.new.out.items c.args.text.now c.args.levels c.in_ok-kind.kind c.plain.result c.in_ok-kind.ensures
-    (λ (e : c.in_ok-kind.kind ≡ kind.Object). c.in_default.not-Object (cc (e, c.in_default.kind-is))) (λ (e : c.in_ok-kind.kind ≡ kind.Array). c.in_default.not-Array (cc (e, c.in_default.kind-is))) c.plain.ensures.wrote
+    c.in_default.not-Object c.in_default.not-Array c.plain.ensures.wrote
 
 pub value-returns-clause-wrote : goal.value-returns-clause-wrote
 value-returns-clause-wrote t c = rw (c.as_bytes.ensures.value ∙ c.format.ensures.text) at c.element.ensures.wrote
