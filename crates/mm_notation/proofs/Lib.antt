@@ -1,5 +1,6 @@
 pub mod Loops
 pub mod Behind
+pub mod Puts
 pub mod Core
 pub mod Leaves
 pub mod Digits

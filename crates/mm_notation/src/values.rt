@@ -1,9 +1,9 @@
 //! Reading values other than objects and arrays.
 
 ghost use Rattle.std.specs.Prelude.{◌≡◌, ◌<◌, ◌≤◌, ◌+◌, length, take, drop, IfOk, Ok};
-ghost use Rattle.mm_bson.specs.Tree.{tree_depth};
+ghost use Rattle.mm_bson.specs.Tree.{tree_depth, boolean as boolean_of};
 ghost use Rattle.mm_bson.specs.View.{tree};
-ghost use Rattle.mm_notation.specs.Reading.{Gives, key_at, number as number_of, opening_at, call_at, timestamp_at, pairs_at, object_id_at, hex_data_at, kind_at};
+ghost use Rattle.mm_notation.specs.Reading.{Gives, key_at, number as number_of, opening_at, call_at, timestamp_at, pairs_at, object_id_at, hex_data_at, kind_at, constant_at};
 ghost use Rattle.mm_notation.specs.Putting.{leaf_at};
 
 use crate::bytes::{after_byte, after_mark, after_word, skip};
@@ -36,9 +36,15 @@ fn key(text: &[u8]) -> Result<(Value, &[u8]), Stop<'_>>
     ensures left { IfOk result (λ x. length x.1.now ≤ length text.now) }
 {
     match text {
-        [b'a', _others @ ..] => Ok((Value::MaxKey, after_word(b"axKey", text)?)),
+        [b'a', _others @ ..] => {
+            let rest = after_word(b"axKey", text)?;
+            Ok((Value::MaxKey, rest))
+        }
         [] => Err(Stop::At(text)),
-        [_first, _others @ ..] => Ok((Value::MinKey, after_word(b"inKey", text)?)),
+        [_first, _others @ ..] => {
+            let rest = after_word(b"inKey", text)?;
+            Ok((Value::MinKey, rest))
+        }
     }
 }
 
@@ -142,6 +148,17 @@ fn hex_data(alloc: Global, text: &[u8]) -> Result<(Value, &[u8]), Stop<'_>>
     Ok((value, rest))
 }
 
+/// A word that stands for a boolean.
+fn boolean<'a>(found: bool, word: &[u8], text: &'a [u8]) -> Result<(Value, &'a [u8]), Stop<'a>>
+    requires { 0 < length word.now }
+    ensures gives { Gives (λ x. (tree x.0, x.1.now)) result (constant_at word.now (boolean_of found) text.now) }
+    ensures flat { IfOk result (λ x. tree_depth (tree x.0) ≡ 0) }
+    ensures left { IfOk result (λ x. length x.1.now < length text.now) }
+{
+    let rest = after_word(word, text)?;
+    Ok((Value::Boolean(found), rest))
+}
+
 /// A value of a kind that holds no other. No object and no array is read.
 pub(crate) fn leaf(alloc: Global, kind: Kind, text: &[u8]) -> Result<(Value, &[u8]), Stop<'_>>
     ensures gives { Gives (λ x. (tree x.0, x.1.now)) result (leaf_at kind text.now) }
@@ -158,9 +175,12 @@ pub(crate) fn leaf(alloc: Global, kind: Kind, text: &[u8]) -> Result<(Value, &[u
             let (found, rest) = integer(text)?;
             Ok((number(found), rest))
         }
-        Kind::True => Ok((Value::Boolean(true), after_word(b"true", text)?)),
-        Kind::False => Ok((Value::Boolean(false), after_word(b"false", text)?)),
-        Kind::Null => Ok((Value::Null, after_word(b"null", text)?)),
+        Kind::True => boolean(true, b"true", text),
+        Kind::False => boolean(false, b"false", text),
+        Kind::Null => {
+            let rest = after_word(b"null", text)?;
+            Ok((Value::Null, rest))
+        }
         Kind::Key => key(after_byte(b'M', text)?),
         Kind::Long => {
             let (found, rest) = call(b"NumberLong", text)?;
