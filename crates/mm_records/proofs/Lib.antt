@@ -43,3 +43,4 @@ pub mod Allocs
 pub mod Lefts
 pub mod Askings
 pub mod DetailsLong
+pub mod Serving

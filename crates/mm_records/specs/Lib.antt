@@ -13,3 +13,4 @@ pub mod Adding
 pub mod Extending
 pub mod Asking
 pub mod Allocating
+pub mod Serving
