@@ -8,7 +8,7 @@ use Rattle.mm_records.specs.Constants.{is_collection}
 use Rattle.mm_check.specs.ExtentChain.{nat_of}
 use Rattle.mm_check.specs.FileQuestions.{none_from}
 use Rattle.mm_check.specs.Findings.{files_from, nodes_in, name_of, details_at, joined, Owner, owners, Clear9}
-use Rattle.mm_check.specs.declared.report.Report.{Report}
+use Rattle.mm_model.specs.declared.finding.Report.{Report}
 
 -- no file of the database is there
 abbrev pub no_file : Image → Bool

@@ -45,4 +45,4 @@ pub use order::check_files;
 pub use owners::Owned;
 pub use phases::{deleted_blocks, file_extents, live_chains, live_records, node_extents};
 pub use records::Records;
-pub use report::{Report, check};
+pub use report::check;

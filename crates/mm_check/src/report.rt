@@ -18,23 +18,9 @@ use crate::numbers::count;
 use crate::order::check_files;
 use crate::owners::text_of;
 use mm_base::Name;
-use mm_model::CheckFault;
+use mm_model::{CheckFault, Report};
 use mm_views::{NS_FILE, Views};
 use std::alloc::Global;
-
-/// How much the files of a database hold in which the check finds nothing.
-#[derive(Clone, Copy, Debug, PartialEq, Eq)]
-pub struct Report {
-    /// The data files, without `.ns`.
-    pub files: u32,
-    pub collections: u64,
-    /// The live records of the collections.
-    pub documents: u64,
-    /// The trees aren't looked at: 0.
-    pub indexes: u64,
-    /// The trees aren't looked at: 0.
-    pub buckets: u64,
-}
 
 // What is told of a database without files.
 fn empty_report() -> Report
@@ -130,8 +116,8 @@ fn report_of(name: &Name, views: &Views) -> Report
 }
 
 /// Whether the private image of a database's files stands for a database, as far as the phases `file` to `counts` see: a report exactly
-/// where they find nothing or no file is there, else the first finding, which is the only one that is first. After `NoMemory` nothing is
-/// known.
+/// where they find nothing or no file is there, else the first finding, which is the only one that is first. The trees
+/// aren't looked at, so a report tells of no indexes and no buckets. After `NoMemory` nothing is known.
 pub fn check(alloc: Global, name: &Name, views: &Views) -> Result<Report, CheckFault>
     ensures empty { IfOk result (λ report. no_file views.now.private ≡ true → IsEmptyReport report) }
     ensures clear { IfOk result (λ report. no_file views.now.private ≡ false → IsReport name.now views.now.private report) }

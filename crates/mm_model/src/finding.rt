@@ -1,4 +1,4 @@
-//! What a check of a database's files finds.
+//! What a check of a database's files finds, and what it tells where it finds nothing.
 
 use thiserror::Error;
 
@@ -40,6 +40,18 @@ pub struct Finding {
     pub file: u32,
     pub at: u32,
     pub what: What,
+}
+
+/// How much the files of a database hold in which a check finds nothing.
+#[derive(Clone, Copy, Debug, PartialEq, Eq)]
+pub struct Report {
+    /// The data files, without `.ns`.
+    pub files: u32,
+    pub collections: u64,
+    /// The live records of the collections.
+    pub documents: u64,
+    pub indexes: u64,
+    pub buckets: u64,
 }
 
 /// Why files aren't accepted.

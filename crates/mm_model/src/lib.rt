@@ -6,8 +6,8 @@
 //! a command it gives one reply and one new database. A history is a list of
 //! groups of entries, and `fold` in specs/History the database after them.
 //!
-//! - `Command`, `Reply`, `Entry`, `Action`, `Finding` and `CheckFault` are plain
-//!   data; a copy is equal to its original.
+//! - `Command`, `Reply`, `Entry`, `Action`, `Finding`, `Report` and `CheckFault`
+//!   are plain data; a copy is equal to its original.
 //! - The laws say of `after` in other words what it keeps and what it gives.
 //!
 //! Not promised: that memory suffices. Nothing here is carried out: engines
@@ -25,7 +25,7 @@ mod reply;
 
 pub use action::{Action, Entry};
 pub use command::Command;
-pub use finding::{CheckFault, Finding, What};
+pub use finding::{CheckFault, Finding, Report, What};
 pub use laws::{
     create_is_full, databases_stay_databases, find_counts_what_matches, finds_keep_the_database,
     folds_join, folds_pass_prefixes, indexing_keeps_documents, inserted_is_found,

@@ -2,7 +2,7 @@ use Rattle.std.proofs.Common.{◌≡◌, false, sym, ◌∙◌}
 use Rattle.std.proofs.lemmas.Bool.{false≢true}
 use Rattle.mm_model.specs.declared.finding.What.{What}
 use Rattle.mm_links.specs.Links.{Place}
-use Rattle.mm_check.specs.declared.report.Report.{Report}
+use Rattle.mm_model.specs.declared.finding.Report.{Report}
 use Rattle.mm_check.specs.Findings.{IsClear}
 use Rattle.mm_check.specs.Reports.{no_file}
 use Rattle.mm_check.specs.TheCheck.{IsFinding}
