@@ -30,16 +30,21 @@ only_one w v c = by c.0 c.1 c.2
 pub apart_lists : (x y : List ℕ) → eq_by_cmp name_cmp x y ≡ false → x ≡ y → ⊥
 apart_lists x y e is = true≢false (sym (same_name y) ∙ ap (λ (n : List ℕ). eq_by_cmp name_cmp n y) (sym is) ∙ e)
 
-module _ (fmt : Format) (story : Story) (mark floor : ℕ) where
-  pub lsn_rests : (l : ℕ) → mark ≤ l → l ≤ floor → LsnPart fmt story mark floor (clean (Some (fmt.number (story.last + l))))
-  lsn_rests l ml lf left may chance = inr (l, ml, lf, ap (λ (o : Option (List ℕ)). unwrap_or o []) (clean_left _ left may))
+module _ (fmt : Format) (story : Story) (mark marking : ℕ) where
+  -- the marked number stands there
+  pub lsn_rests : LsnPart fmt story mark marking (clean (Some (fmt.number (story.last + mark))))
+  lsn_rests left may chance = inr (inl (ap (λ (o : Option (List ℕ)). unwrap_or o []) (clean_left _ left may)))
+
+  -- the new one stands there
+  pub lsn_renewed : LsnPart fmt story mark marking (clean (Some (fmt.number (story.last + marking))))
+  lsn_renewed left may chance = inr (inr (ap (λ (o : Option (List ℕ)). unwrap_or o []) (clean_left _ left may)))
 
   -- it is the old number, the new one, or no number
-  old_or_new : (l : ℕ) → mark ≤ l → l ≤ floor → (left : List ℕ) → IsOldOrNew fmt (Some (fmt.number (story.last + mark))) ((0, fmt.number (story.last + l)) ∷ []) left → LsnAt fmt story mark floor left
-  old_or_new l ml lf left chance = elim (cases_Bool (eq_by_cmp name_cmp left (fmt.number (story.last + mark)))) [
-    | inl is_old ↦ inr (mark, omega arith, omega arith, one_name left _ is_old)
-    | inr not_old ↦ elim (cases_Bool (eq_by_cmp name_cmp left (fmt.number (story.last + l)))) [
-      | inl is_new ↦ inr (l, ml, lf, one_name left _ is_new)
+  old_or_new : (left : List ℕ) → IsOldOrNew fmt (Some (fmt.number (story.last + mark))) ((0, fmt.number (story.last + marking)) ∷ []) left → LsnAt fmt story mark marking left
+  old_or_new left chance = elim (cases_Bool (eq_by_cmp name_cmp left (fmt.number (story.last + mark)))) [
+    | inl is_old ↦ inr (inl (one_name left _ is_old))
+    | inr not_old ↦ elim (cases_Bool (eq_by_cmp name_cmp left (fmt.number (story.last + marking)))) [
+      | inl is_new ↦ inr (inr (one_name left _ is_new))
       | inr not_new ↦ inl (λ n is. elim (chance n is) [
         | inl old ↦ apart_lists left _ not_old (is ∙ sym (same_Some _ _ old))
         | inr new ↦ apart_lists left _ not_new (is ∙ sym (ap (λ (w : ℕ × List ℕ). w.1) (only_one _ _ new)))
@@ -47,8 +52,8 @@ module _ (fmt : Format) (story : Story) (mark floor : ℕ) where
     ]
   ]
 
-  pub lsn_writing : (l : ℕ) → mark ≤ l → l ≤ floor → (done : Bool) → LsnPart fmt story mark floor (place_by (Writes 0 (fmt.number (story.last + l))) done (clean (Some (fmt.number (story.last + mark)))))
-  lsn_writing l ml lf done left may chance = old_or_new l ml lf (unwrap_or left []) chance
+  pub lsn_writing : (done : Bool) → LsnPart fmt story mark marking (place_by (Writes 0 (fmt.number (story.last + marking))) done (clean (Some (fmt.number (story.last + mark)))))
+  lsn_writing done left may chance = old_or_new (unwrap_or left []) chance
 
 -- it is synced
 pub lsn_synced : (fmt : Format) (m n : ℕ) → place_by Syncs true (place_by (Writes 0 (fmt.number n)) true (clean (Some (fmt.number m)))) ≡ clean (Some (fmt.number n))

@@ -20,14 +20,14 @@ pub record JournalAt (fmt : Format) (story : Story) (mark s : ℕ) (left : ℕ �
   pub there : to ≤ length story.sections
   pub holds : HasJournal fmt left (run story from to)
 
--- The number isn't readable, or lies between the marked one and the floor.
+-- The number isn't readable, or is the marked one, or the one whose marking has begun.
 abbrev pub LsnAt : Format → Story → ℕ → ℕ → List ℕ → Type 0
-LsnAt fmt story mark floor bytes = ((n : ℕ) → bytes ≢ fmt.number n) ⊎ ((l : ℕ) × (mark ≤ l) × (l ≤ floor) × (bytes ≡ fmt.number (story.last + l)))
+LsnAt fmt story mark marking bytes = ((n : ℕ) → bytes ≢ fmt.number n) ⊎ ((bytes ≡ fmt.number (story.last + mark)) ⊎ (bytes ≡ fmt.number (story.last + marking)))
 
 -- all of an image. A data file reads the state at the floor outside of the entries of the sections above it.
-pub record Stands (fmt : Format) (at : Names) (story : Story) (mark floor s : ℕ) (image : Image) : Type 0 where
+pub record Stands (fmt : Format) (at : Names) (story : Story) (mark marking floor s : ℕ) (image : Image) : Type 0 where
   pub journal : JournalAt fmt story mark s (journal_of at image)
-  pub lsn : LsnAt fmt story mark floor (bytes_at image at.lsn)
+  pub lsn : LsnAt fmt story mark marking (bytes_at image at.lsn)
   pub files : (file : List ℕ) → IsData at file → DiffersWithin (laid at story floor s) file (state at story floor file) (get image file)
 
 -- The image is whole, and its recovery has the files after s sections or after one more.
@@ -54,7 +54,7 @@ abbrev pub JournalPart : Format → Story → ℕ → ℕ → (ℕ → Place) �
 JournalPart fmt story mark s place = (left : ℕ → Option (List ℕ)) → MayLeaveAll place left → AreFair fmt place left → JournalAt fmt story mark s left
 
 abbrev pub LsnPart : Format → Story → ℕ → ℕ → Place → Type 0
-LsnPart fmt story mark floor p = (left : Option (List ℕ)) → MayLeaveFile p.file p.pending left → IsOldOrNew fmt p.last_synced p.writes (unwrap_or left []) → LsnAt fmt story mark floor (unwrap_or left [])
+LsnPart fmt story mark marking p = (left : Option (List ℕ)) → MayLeaveFile p.file p.pending left → IsOldOrNew fmt p.last_synced p.writes (unwrap_or left []) → LsnAt fmt story mark marking (unwrap_or left [])
 
 -- a data file differs from what it was only within these entries
 abbrev pub FilePart : List Entry → List ℕ → Option (List ℕ) → Place → Type 0
@@ -67,5 +67,5 @@ pub record Parts (at : Names) (Journal : (ℕ → Place) → Type 0) (Lsn : Plac
   pub files : (file : List ℕ) → IsData at file → FilePart entries file (old file) (place file)
 
 -- the parts while sections are logged
-abbrev pub LogParts : Format → Names → Story → ℕ → ℕ → ℕ → (List ℕ → Place) → Type 0
-LogParts fmt at story mark floor s place = Parts at (JournalPart fmt story mark s) (LsnPart fmt story mark floor) (laid at story floor s) (state at story floor) place
+abbrev pub LogParts : Format → Names → Story → ℕ → ℕ → ℕ → ℕ → (List ℕ → Place) → Type 0
+LogParts fmt at story mark marking floor s place = Parts at (JournalPart fmt story mark s) (LsnPart fmt story mark marking) (laid at story floor s) (state at story floor) place
