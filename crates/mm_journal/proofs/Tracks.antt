@@ -138,7 +138,7 @@ module _ (fmt : Format) (at : Names) (db : List ℕ → ℕ) (speaks : Speaks fm
       rooms : c.first + length c.runs < at.count
       rooms = omega (arith, room, next_is fmt at speaks f c tr, speaks.count)
 
-      safe : Safe (Rattle.mm_crash.specs.Parts.LogParts fmt at story c.mark c.floor c.s) (new_file_asks (at.journal (c.first + length c.runs)) (fmt.header (c.first + length c.runs))) u
+      safe : Safe (Rattle.mm_crash.specs.Parts.LogParts fmt at story c.mark c.marking c.floor c.s) (new_file_asks (at.journal (c.first + length c.runs)) (fmt.header (c.first + length c.runs))) u
       safe = begin_safe fmt at db story k.sound c u k.rest rooms
 
       begun_kept : IsKept fmt at db t story (record c { runs = c.runs ++ [] ∷ [] }) receipts (asked (begin_asks f) u)
@@ -248,7 +248,7 @@ module _ (fmt : Format) (at : Names) (db : List ℕ → ℕ) (speaks : Speaks fm
     ask_is : remove_asks f.first 1 ≡ ask
     ask_is = ap (λ n. remove_asks n 1) tr.first ∙ sym (ap (λ (name : List ℕ). record { name = name; change = Removes } ∷ []) (speaks.journal c.first (omega (arith, room, speaks.count))))
 
-    safe_one : Safe (Rattle.mm_crash.specs.Parts.LogParts fmt at story c.mark c.floor c.s) ask u
+    safe_one : Safe (Rattle.mm_crash.specs.Parts.LogParts fmt at story c.mark c.marking c.floor c.s) ask u
     safe_one = remove_safe fmt at db story k.sound c u k.rest gone runs is room marked
 
     one_cut : (v : Told) → IsCut (remove_asks f.first 1) u v → Leaves (WholeAt fmt at story (synced_before receipts)) t v
