@@ -1,5 +1,5 @@
 -- A run of calls, done or stopped, leads the fact on.
-use Rattle.std.proofs.Common.{◌≡◌, inl, inr, ℕ, ◌+◌, ◌<◌, ◌≤◌, Bool, true, false, cond, List, [], ◌∷◌, ◌++◌, length, get_or, refl, sym, ◌∙◌, ap, subst, arith}
+use Rattle.std.proofs.Common.{◌≡◌, inl, inr, ℕ, ◌+◌, ◌<◌, ◌≤◌, true, false, cond, List, [], ◌∷◌, ◌++◌, length, get_or, refl, sym, ◌∙◌, ap, subst, arith}
 use Rattle.std.proofs.lemmas.Bool.{cases_lt}
 use Rattle.std.proofs.lemmas.Bool.Decides.{nat_tests}
 use Rattle.std.proofs.lemmas.List.{length-append, get_or_append_left, get_or-append-add}
@@ -15,12 +15,12 @@ use Rattle.mm_section.specs.declared.section.Section.{Section}
 use Rattle.mm_crash.specs.Overlay.{DiffersWithin}
 use Rattle.mm_crash.specs.Journal.{Format, HasJournal, entries_of}
 use Rattle.mm_crash.specs.Recovered.{Names, Files}
-use Rattle.mm_crash.specs.Story.{Story, state, run, laid, IsSound, with_section}
+use Rattle.mm_crash.specs.Story.{Story, state, laid, IsSound, with_section}
 use Rattle.mm_crash.specs.Parts.{Stands, LogParts}
 use Rattle.mm_crash.specs.Rest.{Counts, IsAtRest, IsNext, IsRecovered, new_story, no_counts}
 use Rattle.mm_crash.proofs.Parts.{stands, whole}
-use Rattle.mm_crash.proofs.Log.{rest_parts}
-use Rattle.mm_crash.proofs.Kept.{length-asked, run_more, state_more, sound_more, whole_more, rest_more, kept_start}
+use Rattle.mm_crash.proofs.Log.{rest_parts, marking_rest}
+use Rattle.mm_crash.proofs.Kept.{run_more, state_more, sound_more, whole_more, rest_more, kept_start}
 use Rattle.mm_prefix.specs.Prefix.{Numbers, numbers_of, IsPrefix, PrefixAt, since, AreReceipts, IsDurable, at_first}
 
 -- ---- the numbers at a moment
@@ -61,14 +61,14 @@ module _ (fmt : Format) (at : Names) (db : List ℕ → ℕ) where
   floor_synced story c u r = omega (arith, r.floor_flushed 0, r.flushed_s 0)
 
   -- from what the places may leave to what an image is
-  parts_prefix : (story : Story) → IsSound fmt at story → (n : Numbers) → n.mark ≤ n.floor → n.floor ≤ n.synced → (history : ℕ → Numbers) (from : ℕ) → ((m : ℕ) → from < m → history m ≡ n) → (u : Told) → LogParts fmt at story n.mark n.floor n.synced (place_of u)
+  parts_prefix : (story : Story) → IsSound fmt at story → (n : Numbers) → n.mark ≤ n.marking → n.marking ≤ n.floor → n.floor ≤ n.synced → (history : ℕ → Numbers) (from : ℕ) → ((m : ℕ) → from < m → history m ≡ n) → (u : Told) → LogParts fmt at story n.mark n.marking n.floor n.synced (place_of u)
       → LeavesNow (PrefixAt fmt at story history) from u
-  parts_prefix story sound n mf fs history from is u parts m image lt left chance =
-      let st : Stands fmt at story n.mark n.floor n.synced image = stands fmt at story n.mark n.floor n.synced u image parts left chance in
-      subst (λ x. IsPrefix fmt at story x image) (sym (is m lt)) (record { mark_floor = mf; floor_synced = fs; stands = st; whole = whole fmt at story sound n.mark n.floor n.synced mf fs image st })
+  parts_prefix story sound n mm mf fs history from is u parts m image lt left chance =
+      let st : Stands fmt at story n.mark n.marking n.floor n.synced image = stands fmt at story n.mark n.marking n.floor n.synced u image parts left chance in
+      subst (λ x. IsPrefix fmt at story x image) (sym (is m lt)) (record { mark_marking = mm; marking_floor = mf; floor_synced = fs; stands = st; whole = whole fmt at story sound n.mark n.marking n.floor n.synced mm mf fs image st })
 
   rest_prefix : (story : Story) → IsSound fmt at story → (c : Counts) (u : Told) → IsAtRest fmt at db story c u → (history : ℕ → Numbers) (from : ℕ) → ((m : ℕ) → from < m → history m ≡ numbers_of c) → LeavesNow (PrefixAt fmt at story history) from u
-  rest_prefix story sound c u r history from is = parts_prefix story sound (numbers_of c) r.mark_floor (floor_synced story c u r) history from is u (rest_parts fmt at db story sound c u r)
+  rest_prefix story sound c u r history from is = parts_prefix story sound (numbers_of c) r.mark_marking r.marking_floor (floor_synced story c u r) history from is u (rest_parts fmt at db story sound c u r)
 
   -- ---- a run of calls
 
@@ -77,10 +77,10 @@ module _ (fmt : Format) (at : Names) (db : List ℕ → ℕ) where
     P = PrefixAt fmt at story history
 
     abbrev Good : (List ℕ → Place) → Type 0
-    Good = LogParts fmt at story c.mark c.floor c.s
+    Good = LogParts fmt at story c.mark c.marking c.floor c.s
 
     good : (v : Told) (n : ℕ) → length u.calls ≤ n → Good (place_of v) → LeavesNow P n v
-    good v n le parts = parts_prefix story k.sound (numbers_of c) k.rest.mark_floor (floor_synced story c u k.rest) history n (λ m lt. k.now m (omega arith)) v parts
+    good v n le parts = parts_prefix story k.sound (numbers_of c) k.rest.mark_marking k.rest.marking_floor (floor_synced story c u k.rest) history n (λ m lt. k.now m (omega arith)) v parts
 
     -- stopped anywhere
     pub stopped : (asks : List Ask) (v : Told) → Safe Good asks u → IsCut asks u v → Leaves P t v
@@ -123,6 +123,12 @@ module _ (fmt : Format) (at : Names) (db : List ℕ → ℕ) where
         given = receipts_more receipts history moment (numbers_of d) k.given (omega (arith, more, k.each));
       }
 
+  -- A marking of the floor begins: from now on the numbers say so.
+  pub begins_marking : (t : Told) (story : Story) (c : Counts) (history : ℕ → Numbers) (receipts : List ℕ) (u : Told) → IsDurable fmt at db t story c history receipts u
+      → IsDurable fmt at db t story (record c { marking = c.floor }) (since (length u.calls) (numbers_of (record c { marking = c.floor })) history) receipts u
+  begins_marking t story c history receipts u k =
+      goes_on t story c history receipts u k [] (record c { marking = c.floor }) tt (marking_rest fmt at db story k.sound c u k.rest c.floor (omega (arith, k.rest.mark_marking, k.rest.marking_floor)) (omega arith)) refl
+
   -- ---- one sealed section more, with no call
 
   laid_more : (story : Story) (x : Section) (a k : ℕ) → k ≤ length story.sections → laid at (with_section story x) a k ≡ laid at story a k
@@ -132,7 +138,8 @@ module _ (fmt : Format) (at : Names) (db : List ℕ → ℕ) where
   prefix_more story x n image p =
       let there : n.synced ≤ length story.sections = omega (arith, p.stands.journal.no_less, p.stands.journal.there) in
       record {
-        mark_floor = p.mark_floor;
+        mark_marking = p.mark_marking;
+        marking_floor = p.marking_floor;
         floor_synced = p.floor_synced;
         stands = record {
           journal = record {

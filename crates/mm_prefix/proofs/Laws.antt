@@ -1,5 +1,5 @@
 -- What follows of receipts, and of crashes within recoveries.
-use Rattle.std.proofs.Common.{◌≡◌, ℕ, ◌+◌, ◌<◌, ◌≤◌, List, [], ◌∷◌, length, get_or, sym, subst, arith}
+use Rattle.std.proofs.Common.{ℕ, ◌<◌, List, [], ◌∷◌, length, get_or, arith}
 use Rattle.mm_outside.specs.Image.{Image}
 use Rattle.mm_outside.specs.Told.{Told, Left}
 use Rattle.mm_outside.specs.Place.{at_moment}

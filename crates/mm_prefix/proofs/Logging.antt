@@ -1,5 +1,5 @@
 -- A section is appended and synced, in a new file where the last is full.
-use Rattle.std.proofs.Common.{◌≡◌, inl, inr, ℕ, zero, suc, ◌+◌, ◌-◌, ◌^◌, ◌<◌, ◌≤◌, Bool, true, false, cond, ◌||◌, List, [], ◌∷◌, ◌++◌, length, take, drop, map, refl, sym, ◌∙◌, ap, subst, arith, append_assoc}
+use Rattle.std.proofs.Common.{◌≡◌, inl, inr, ℕ, zero, suc, ◌+◌, ◌^◌, ◌<◌, ◌≤◌, Bool, true, false, cond, ◌||◌, List, [], ◌∷◌, ◌++◌, length, take, drop, refl, sym, ◌∙◌, ap, subst, arith, append_assoc}
 use mathlib.Core.Bool.{true≢false}
 use Rattle.std.proofs.lemmas.Bool.{cases_Bool}
 use Rattle.std.proofs.lemmas.List.{length-append, length-map, length-drop}
@@ -54,6 +54,7 @@ module _ (fmt : Format) (at : Names) (db : List ℕ → ℕ) (speaks : Speaks fm
   pub record Logged (f : Files) (c : Counts) (u : Told) : Type 0 where
     pub counts : Counts
     pub mark : counts.mark ≡ c.mark
+    pub marking : counts.marking ≡ c.marking
     pub floor : counts.floor ≡ c.floor
     pub flushed : counts.flushed ≡ c.flushed
     pub synced : counts.s ≡ c.s + 1
@@ -78,13 +79,14 @@ module _ (fmt : Format) (at : Names) (db : List ℕ → ℕ) (speaks : Speaks fm
     asks_are : asks ≡ write_asks (at.journal (c.first + length front)) (length (file_bytes fmt (c.first + length front) last)) (fmt.section (c.first + length front) x)
     asks_are = writes_so fmt at speaks f c tr front last is room bytes ∙ ap (write_asks (at.journal (c.first + length front)) (length (file_bytes fmt (c.first + length front) last))) spells
 
-    behind_safe : Safe (LogParts fmt at story c.mark c.floor c.s) asks u
-    behind_safe = subst (λ (l : List Ask). Safe (LogParts fmt at story c.mark c.floor c.s) l u) (sym asks_are) (append_safe fmt at db story sound c u r front last is inside x one_more (next_run c r.journal.from_s e))
+    behind_safe : Safe (LogParts fmt at story c.mark c.marking c.floor c.s) asks u
+    behind_safe = subst (λ (l : List Ask). Safe (LogParts fmt at story c.mark c.marking c.floor c.s) l u) (sym asks_are) (append_safe fmt at db story sound c u r front last is inside x one_more (next_run c r.journal.from_s e))
 
     behind_rest : Logged (written x.number (length bytes) f) c (asked asks u)
     behind_rest = record {
       counts = record c { runs = front ++ (last ++ x ∷ []) ∷ []; s = c.s + 1 };
       mark = refl;
+      marking = refl;
       floor = refl;
       flushed = refl;
       synced = refl;
@@ -94,7 +96,7 @@ module _ (fmt : Format) (at : Names) (db : List ℕ → ℕ) (speaks : Speaks fm
 
   module _ (f : Files) (c : Counts) (u : Told) (tr : Tracks fmt f c) (r : IsAtRest fmt at db story c u) (e : drop c.s story.sections ≡ x ∷ others) (room : next_number f < 2 ^ 32) (bytes : List ℕ) (spells : bytes ≡ fmt.section (last_number (ready f)) x) where
     abbrev Good : (List ℕ → Place) → Type 0
-    Good = LogParts fmt at story c.mark c.floor c.s
+    Good = LogParts fmt at story c.mark c.marking c.floor c.s
 
     rooms : c.first + length c.runs < at.count
     rooms = omega (arith, room, next_is fmt f c tr, speaks.count)
@@ -177,7 +179,7 @@ module _ (fmt : Format) (at : Names) (db : List ℕ → ℕ) (speaks : Speaks fm
           let there = behind_rest (begun f) c_begun (asked (begin_asks f) u) (tracks_begun fmt at speaks f c tr) begun_rest e c.runs [] refl small_full bytes (spells_full full) in
           subst (λ (h : Files). Logged (written x.number (length bytes) h) c (asked (log_asks f bytes) u)) (sym (ready_full full))
           (subst (λ (v : Told). Logged (written x.number (length bytes) (begun f)) c v) (sym (ap (λ (l : List Ask). asked l u) (asks_full full) ∙ asked-append (begin_asks f) (behind_asks (begun f)) u))
-          (record { counts = there.counts; mark = there.mark; floor = there.floor; flushed = there.flushed; synced = there.synced; tracks = there.tracks; rest = there.rest }))
+          (record { counts = there.counts; mark = there.mark; marking = there.marking; floor = there.floor; flushed = there.flushed; synced = there.synced; tracks = there.tracks; rest = there.rest }))
       | inr isnt ↦
           subst (λ (h : Files). Logged (written x.number (length bytes) h) c (asked (log_asks f bytes) u)) (sym (ready_room isnt))
           (subst (λ (l : List Ask). Logged (written x.number (length bytes) f) c (asked l u)) (sym (asks_room isnt))

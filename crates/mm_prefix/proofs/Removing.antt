@@ -1,8 +1,7 @@
 -- The first files of the journal are removed, whose sections are all marked.
-use Rattle.std.proofs.Common.{◌≡◌, ◌⊎◌, inl, inr, ℕ, zero, suc, ◌+◌, ◌^◌, ◌<◌, ◌≤◌, List, [], ◌∷◌, ◌++◌, length, take, drop, map, refl, sym, ◌∙◌, ap, subst, arith}
+use Rattle.std.proofs.Common.{◌≡◌, ◌⊎◌, inl, inr, ℕ, zero, suc, ◌+◌, ◌^◌, ◌<◌, ◌≤◌, List, [], ◌∷◌, length, take, drop, map, refl, sym, ◌∙◌, ap, subst, arith}
 use Rattle.std.proofs.lemmas.List.{length-append, drop-drop}
 use Rattle.mm_outside.specs.Told.{Told, Removes}
-use Rattle.mm_outside.specs.Place.{Place}
 use Rattle.mm_outside.specs.Ask.{Ask, asked}
 use Rattle.mm_outside.proofs.Cuts.{Safe, safe_append}
 use Rattle.mm_section.specs.declared.section.Section.{Section}
@@ -35,6 +34,7 @@ module _ (fmt : Format) (at : Names) (db : List ℕ → ℕ) (speaks : Speaks fm
   pub record Removed (f : Files) (c : Counts) (u : Told) : Type 0 where
     pub counts : Counts
     pub mark : counts.mark ≡ c.mark
+    pub marking : counts.marking ≡ c.marking
     pub floor : counts.floor ≡ c.floor
     pub flushed : counts.flushed ≡ c.flushed
     pub synced : counts.s ≡ c.s
@@ -59,8 +59,8 @@ module _ (fmt : Format) (at : Names) (db : List ℕ → ℕ) (speaks : Speaks fm
     ask_is : remove_asks f.first 1 ≡ ask
     ask_is = ap (λ n. remove_asks n 1) tr.first ∙ sym (ap (λ (name : List ℕ). record { name = name; change = Removes } ∷ []) (speaks.journal c.first (omega (arith, room, speaks.count))))
 
-    one_safe : Safe (LogParts fmt at story c.mark c.floor c.s) (remove_asks f.first 1) u
-    one_safe = subst (λ (l : List Ask). Safe (LogParts fmt at story c.mark c.floor c.s) l u) (sym ask_is) (remove_safe fmt at db story sound c u r gone runs is room marked)
+    one_safe : Safe (LogParts fmt at story c.mark c.marking c.floor c.s) (remove_asks f.first 1) u
+    one_safe = subst (λ (l : List Ask). Safe (LogParts fmt at story c.mark c.marking c.floor c.s) l u) (sym ask_is) (remove_safe fmt at db story sound c u r gone runs is room marked)
 
     one_rest : IsAtRest fmt at db story after (asked (remove_asks f.first 1) u)
     one_rest = subst (λ (l : List Ask). IsAtRest fmt at db story after (asked l u)) (sym ask_is) (remove_rest fmt at db story sound c u r gone runs is room marked)
@@ -80,21 +80,21 @@ module _ (fmt : Format) (at : Names) (db : List ℕ → ℕ) (speaks : Speaks fm
 
   -- stopped anywhere it is safe
   pub remove_all_safe : (k : ℕ) (f : Files) (c : Counts) (u : Told) → Tracks fmt f c → IsAtRest fmt at db story c u → (runs : List (List Section)) → c.runs ≡ runs → k ≤ length runs → c.first + length c.runs ≤ 2 ^ 32 → AreMarked k c runs
-      → Safe (LogParts fmt at story c.mark c.floor c.s) (remove_asks f.first k) u
+      → Safe (LogParts fmt at story c.mark c.marking c.floor c.s) (remove_asks f.first k) u
   remove_all_safe zero f c u tr r runs e le small marked = tt
   remove_all_safe (suc n) f c u tr r [] e le small marked = absurd (omega arith)
   remove_all_safe (suc n) f c u tr r (gone ∷ runs) e le small marked =
       let split = less n c gone runs marked in
-      safe_append (LogParts fmt at story c.mark c.floor c.s) (remove_asks f.first 1) (remove_asks (f.first + 1) n) u (one_safe f c u tr r gone runs e small split.0)
+      safe_append (LogParts fmt at story c.mark c.marking c.floor c.s) (remove_asks f.first 1) (remove_asks (f.first + 1) n) u (one_safe f c u tr r gone runs e small split.0)
       (remove_all_safe n (dropped 1 f) (after f c u tr r gone runs e small split.0) (asked (remove_asks f.first 1) u) (one_tracks f c u tr r gone runs e small split.0) (one_rest f c u tr r gone runs e small split.0) runs refl (omega arith) (omega (arith, small, ap length e)) split.1)
 
   -- done, fewer files stand there
   pub remove_all_rest : (k : ℕ) (f : Files) (c : Counts) (u : Told) → Tracks fmt f c → IsAtRest fmt at db story c u → (runs : List (List Section)) → c.runs ≡ runs → k ≤ length runs → c.first + length c.runs ≤ 2 ^ 32 → AreMarked k c runs
       → Removed (dropped k f) c (asked (remove_asks f.first k) u)
-  remove_all_rest zero f c u tr r runs e le small marked = subst (λ (g : Files). Removed g c u) (none_dropped f) (record { counts = c; mark = refl; floor = refl; flushed = refl; synced = refl; tracks = tr; rest = r })
+  remove_all_rest zero f c u tr r runs e le small marked = subst (λ (g : Files). Removed g c u) (none_dropped f) (record { counts = c; mark = refl; marking = refl; floor = refl; flushed = refl; synced = refl; tracks = tr; rest = r })
   remove_all_rest (suc n) f c u tr r [] e le small marked = absurd (omega arith)
   remove_all_rest (suc n) f c u tr r (gone ∷ runs) e le small marked =
       let split = less n c gone runs marked in
       let there = remove_all_rest n (dropped 1 f) (after f c u tr r gone runs e small split.0) (asked (remove_asks f.first 1) u) (one_tracks f c u tr r gone runs e small split.0) (one_rest f c u tr r gone runs e small split.0) runs refl (omega arith) (omega (arith, small, ap length e)) split.1 in
       subst (λ (g : Files). Removed g c (asked (remove_asks f.first (suc n)) u)) (one_more n f)
-      (record { counts = there.counts; mark = there.mark; floor = there.floor; flushed = there.flushed; synced = there.synced; tracks = there.tracks; rest = there.rest })
+      (record { counts = there.counts; mark = there.mark; marking = there.marking; floor = there.floor; flushed = there.flushed; synced = there.synced; tracks = there.tracks; rest = there.rest })

@@ -10,22 +10,26 @@ use Rattle.mm_crash.specs.Story.{Story, IsSound}
 use Rattle.mm_crash.specs.Parts.{Stands, IsWholeAfter}
 use Rattle.mm_crash.specs.Rest.{Counts, IsAtRest}
 
--- How many of the run's sections are marked in the lsn file, are in all synced data files (the floor), and are synced in the journal.
+-- How many of the run's sections are marked in the lsn file, are being marked there (as many, where no marking has begun that hasn't answered
+-- Ok), are in all synced data files (the floor), and are synced in the journal.
 pub record Numbers : Type 0 where
   pub mark : ℕ
+  pub marking : ℕ
   pub floor : ℕ
   pub synced : ℕ
 
 abbrev pub numbers_of : Counts → Numbers
-numbers_of c = record { mark = c.mark; floor = c.floor; synced = c.s }
+numbers_of c = record { mark = c.mark; marking = c.marking; floor = c.floor; synced = c.s }
 
 -- One image: outside what the sections above the floor make and write, each data file is as at the floor; the journal has the sections from the
--- marked one on without a gap, up to the last synced one or one more; the lsn is unreadable or lies between the marked number and the floor.
+-- marked one on without a gap, up to the last synced one or one more; the lsn is unreadable, or it is the marked number or the one whose marking
+-- has begun and hasn't answered Ok. Such a number is at most the floor, and the floor is at most the last synced one.
 -- So the image is whole, and its recovery has the files as after the last synced section or after one more, the same for all databases.
 pub record IsPrefix (fmt : Format) (at : Names) (story : Story) (n : Numbers) (image : Image) : Type 0 where
-  pub mark_floor : n.mark ≤ n.floor
+  pub mark_marking : n.mark ≤ n.marking
+  pub marking_floor : n.marking ≤ n.floor
   pub floor_synced : n.floor ≤ n.synced
-  pub stands : Stands fmt at story n.mark n.floor n.synced image
+  pub stands : Stands fmt at story n.mark n.marking n.floor n.synced image
   pub whole : IsWholeAfter fmt at story n.synced image
 
 -- The same of each image without a chance match. The numbers are those of that moment.
@@ -54,4 +58,4 @@ pub record IsDurable (fmt : Format) (at : Names) (db : List ℕ → ℕ) (t : To
 
 -- what a run begins with
 abbrev pub at_first : ℕ → Numbers
-at_first m = record { mark = 0; floor = 0; synced = 0 }
+at_first m = record { mark = 0; marking = 0; floor = 0; synced = 0 }
