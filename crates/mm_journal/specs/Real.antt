@@ -3,7 +3,7 @@ use Rattle.std.specs.Prelude.{ℕ, ◌+◌, ◌-◌, ◌^◌, Bool, true, false,
 use Rattle.std.specs.Fmt.{decimal}
 use Rattle.std.specs.List.{list_all}
 use Rattle.mm_frames.specs.Lsn.{lsn_bytes}
-use Rattle.mm_frames.specs.JournalHeader.{journal_header_bytes, header_kind}
+use Rattle.mm_frames.specs.JournalHeader.{header_kind}
 use Rattle.mm_frames.specs.declared.journal_header.HeaderKind.{HeaderKind}
 use Rattle.mm_frames.specs.declared.journal_header.HeaderKind.TheVariants.{Ours, Foreign, Broken}
 use Rattle.mm_jfiles.specs.Names.{journal_name}
