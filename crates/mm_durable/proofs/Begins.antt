@@ -48,6 +48,7 @@ begins log last is files u recovered = record {
   durable = subst (λ (l : List ℕ). IsDurable the_format the_names (db_of log.names.items) u (new_story files last) no_counts at_first l u) (sym is.receipts) (starts the_format the_names (db_of log.names.items) files last u recovered);
   tracks = record { first = is.first; lasts = is.lasts; end = λ some. absurd (omega (arith, some)) };
   mark = sym is.mark;
+  marking = sym is.mark;
   floor = sym is.floor;
   flushed = λ d lt. sym (is.flushed d);
   sections = is.sections ∙ sym (ap (λ n. drop n []) is.dropped);
@@ -67,6 +68,7 @@ adds old new x sound files names last sections dropped receipts flushed floor ma
           (subst (λ (l : List ℕ). IsDurable the_format the_names (db_of old.names.items) t (with_section story x) k.counts history l u) (sym receipts) here);
       tracks = subst (λ (f : journal.Files). Tracks the_format f k.counts) (sym files) k.tracks;
       mark = k.mark ∙ sym mark;
+      marking = k.marking ∙ sym mark;
       floor = k.floor ∙ sym floor;
       flushed = λ d lt. k.flushed d (omega (arith, lt, ap length names)) ∙ sym (ap (λ (l : List ℕ). get_or l d 0) flushed);
       sections = sections ∙ ap (λ (l : List Section). l ++ x ∷ []) k.sections ∙ sym (drop-append-le old.dropped story.sections (x ∷ []) there) ∙ sym (ap (λ n. drop n (story.sections ++ x ∷ [])) dropped);

@@ -47,6 +47,7 @@ module _ (old : Log) (sound : IsSound old) (goes : GoesOn old) (k : ℕ) where
           rest = r.rest;
           tracks = subst (λ (f : Files). Rattle.mm_journal.specs.Tracks.Tracks the_format f r.counts) (sym is) r.tracks;
           mark = r.mark ∙ x.mark;
+          marking = r.marking ∙ x.marking;
           floor = r.floor ∙ x.floor;
           flushed = λ d lt. ap (λ (f : ℕ → ℕ). f d) r.flushed ∙ x.flushed d lt;
           sections = x.sections;

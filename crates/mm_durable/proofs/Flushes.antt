@@ -113,6 +113,7 @@ module _ (old : Log) (sound : IsSound old) (d : ℕ) (lt : d < length old.names.
             tracks = subst (λ (f : files.Files). Tracks the_format f (record x.counts { flushed = flushed_now the_format the_names (db_of old.names.items) story x.durable.sound x.counts u x.durable.rest d k (later t u story history x) (no_later t u story history x) })) (sym journal)
                 (record { first = x.tracks.first; lasts = x.tracks.lasts; end = x.tracks.end });
             mark = x.mark ∙ sym mark;
+            marking = x.marking ∙ sym mark;
             floor = x.floor ∙ sym floor;
             flushed = flushed_there x.counts.flushed x.flushed;
             sections = sections ∙ x.sections ∙ sym (ap (λ n. drop n story.sections) dropped);

@@ -78,6 +78,7 @@ still_kept old «new» sound r t u story history k =
           (subst (λ (l : List ℕ). IsDurable the_format the_names (db_of old.names.items) t story k.counts history l u) (sym r.receipts) k.durable);
       tracks = subst (λ (f : journal.Files). Tracks the_format f k.counts) (sym r.journal) k.tracks;
       mark = k.mark ∙ sym r.mark;
+      marking = k.marking ∙ sym r.mark;
       floor = k.floor ∙ sym r.floor;
       flushed = λ d lt. k.flushed d (omega (arith, lt, ap length r.names)) ∙ sym (ap (λ (l : List ℕ). get_or l d 0) r.flushed);
       sections = r.sections ∙ ap (drop (old.floor - old.dropped)) k.sections ∙ drop-drop (old.floor - old.dropped) old.dropped story.sections ∙ ap (λ (n : ℕ). drop n story.sections) (along ∙ sym r.dropped);
@@ -97,6 +98,6 @@ gone_then old mid «new» run gone = record {
 
 pub numbers_same : (old «new» : Log) → KeepsCounts old «new» → numbers «new» ≡ numbers old
 numbers_same old «new» k =
-    ap (λ (n : ℕ). let x : Numbers = record { mark = n; floor = «new».floor; synced = length «new».receipts.items } in x) k.mark_kept
-    ∙ ap (λ (n : ℕ). let x : Numbers = record { mark = old.mark; floor = n; synced = length «new».receipts.items } in x) k.floor_kept
-    ∙ ap (λ (n : ℕ). let x : Numbers = record { mark = old.mark; floor = old.floor; synced = n } in x) (ap length k.receipts_kept)
+    ap (λ (n : ℕ). let x : Numbers = record { mark = n; marking = n; floor = «new».floor; synced = length «new».receipts.items } in x) k.mark_kept
+    ∙ ap (λ (n : ℕ). let x : Numbers = record { mark = old.mark; marking = old.mark; floor = n; synced = length «new».receipts.items } in x) k.floor_kept
+    ∙ ap (λ (n : ℕ). let x : Numbers = record { mark = old.mark; marking = old.mark; floor = old.floor; synced = n } in x) (ap length k.receipts_kept)

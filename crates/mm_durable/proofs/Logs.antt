@@ -130,6 +130,7 @@ module _ (old : Log) (sound : IsSound old) (goes : GoesOn old) (pending : has_pe
             rest = r.rest;
             tracks = subst (λ (g : Files). Tracks the_format g r.counts) (sym (journal ∙ e)) r.tracks;
             mark = r.mark ∙ k.mark ∙ sym mark;
+            marking = r.marking ∙ k.marking ∙ sym mark;
             floor = r.floor ∙ k.floor ∙ sym floor;
             flushed = λ d lt. ap (λ (g : ℕ → ℕ). g d) r.flushed ∙ k.flushed d lt ∙ sym (ap (λ (l : List ℕ). get_or l d 0) flushed);
             sections = kept ∙ k.sections ∙ sym (ap (λ n. drop n story.sections) dropped);

@@ -11,11 +11,11 @@ use Rattle.mm_crash.specs.Story.{Story}
 use Rattle.mm_prefix.specs.Prefix.{Numbers, AreReceipts, since}
 use Rattle.mm_items.specs.Given.{Taken}
 use Rattle.mm_durable.specs.Names.{has_name}
-use Rattle.mm_durable.specs.Log.{IsSound, GoesOn, KeepsRun, KeepsCounts, Keeps, Leaving, numbers, sealed}
+use Rattle.mm_durable.specs.Log.{IsSound, GoesOn, KeepsRun, KeepsCounts, Keeps, KeepsMarking, Leaving, LeavingMarking, numbers, marking_numbers, sealed}
 use Rattle.mm_durable.specs.Intake.{by_name, lists, AreRising, AreSeated, AreAllOrNone, HasEntry, IsIntake, SameTaken}
 use Rattle.mm_durable.specs.Durable.{HasImages, IsServed, IsSafe, IsOrderly, SameItems, items_of}
 use Rattle.mm_durable.specs.declared.log.Log.{Log}
-use Rattle.mm_durable.proofs.Marks.{idle}
+use Rattle.mm_durable.proofs.Marks.{idle, marking_begins}
 use Rattle.mm_durable.specs.declared.intake.Intake.{Intake}
 use Rattle.mm_durable.specs.declared.durable.Durable.{Durable}
 
@@ -78,6 +78,25 @@ leaves_off old new b sound run same counts before after left t u story history i
     let was = served_safe t u story history old.log (items_of old) sound k in
     let now = safe_as t u story history old.log new old.intake b run.names same.lists_same counts.receipts_kept (omega (arith, sealed_as old.log new run)) was in
     (on.0, on.1, record { leaves = on.2; given = now.given; images = now.images; count = now.count })
+
+-- what `ServesMarking` says
+pub serves_marking : (old new : Log) (a b : Intake) → KeepsRun old new → SameTaken a b → (before after : Option Told) → KeepsMarking old new before after
+    → (t u : Told) (story : Story) (history : ℕ → Numbers) → before ≡ Some u → IsServed t u story history old (by_name old.names.items (lists a))
+    → (v : Told) × (after ≡ Some v) × IsServed t v story (since (length v.calls) (numbers new) (since (length u.calls) (marking_numbers old) history)) new (by_name new.names.items (lists b))
+serves_marking old new a b run same before after keeps t u story history is k =
+    let on = keeps t u story history is k.log_is in
+    (on.0, on.1, record { log_is = on.2; images = images_as old new a b run same story k.images })
+
+-- what `LeavesMarking` says
+pub leaves_marking : {D : Type 0} (old : Durable D) (new : Log) (b : Intake) → IsSound old.log → KeepsRun old.log new → SameTaken old.intake b → KeepsCounts old.log new → (before after : Option Told) → LeavingMarking old.log before after
+    → (t u : Told) (story : Story) (history : ℕ → Numbers) → before ≡ Some u → IsServed t u story history old.log (items_of old)
+    → (v : Told) × (after ≡ Some v) × IsSafe t v story (since (length u.calls) (marking_numbers old.log) history) new (by_name new.names.items (lists b))
+leaves_marking old new b sound run same counts before after left t u story history is k =
+    let on = left t u story history is k.log_is in
+    let was = served_safe t u story history old.log (items_of old) sound k in
+    let now = safe_as t u story history old.log new old.intake b run.names same.lists_same counts.receipts_kept (omega (arith, sealed_as old.log new run)) was in
+    let given = subst (λ (l : List ℕ). AreReceipts l (since (length u.calls) (marking_numbers old.log) history)) (sym counts.receipts_kept) (marking_begins old.log t u story history k.log_is).given in
+    (on.0, on.1, record { leaves = on.2; given = given; images = now.images; count = now.count })
 
 pub taken_same : (i : Intake) → SameTaken i i
 taken_same i = record { lists_same = refl; rooms_same = refl; rings_same = refl; sorted = refl; ranks = refl; seats = refl; parts = refl; space = refl }

@@ -23,7 +23,7 @@ on_err_holds (Err e) P h = h
 
 -- what the places may leave while this log's calls are made
 abbrev pub Good : Story → Counts → (List ℕ → Place) → Type 0
-Good story c = LogParts the_format the_names story c.mark c.floor c.s
+Good story c = LogParts the_format the_names story c.mark c.marking c.floor c.s
 
 -- these calls are safe wherever the fact holds
 abbrev pub AreSafe : Log → List Ask → Type 0
@@ -35,8 +35,8 @@ leaving old before after asks some safe t u story history is k =
     let cut = some u is in
     (cut.0, cut.1, stopped the_format the_names (db_of old.names.items) t story k.counts history old.receipts.items u k.durable asks cut.0 (safe t u story history k) cut.2)
 
-numbers_are : (d : Counts) (mark floor s : ℕ) → d.mark ≡ mark → d.floor ≡ floor → d.s ≡ s → let n : Numbers = record { mark = mark; floor = floor; synced = s } in numbers_of d ≡ n
-numbers_are d mark floor s e f h = cc
+pub numbers_are : (d : Counts) (mark marking floor s : ℕ) → d.mark ≡ mark → d.marking ≡ marking → d.floor ≡ floor → d.s ≡ s → let n : Numbers = record { mark = mark; marking = marking; floor = floor; synced = s } in numbers_of d ≡ n
+numbers_are d mark marking floor s e g f h = cc
 
 -- what stands after calls that are done
 pub record Stands (old new : Log) (story : Story) (c : Counts) (u : Told) : Type 0 where
@@ -44,6 +44,7 @@ pub record Stands (old new : Log) (story : Story) (c : Counts) (u : Told) : Type
   pub rest : IsAtRest the_format the_names (db_of old.names.items) story counts u
   pub tracks : Tracks the_format new.journal counts
   pub mark : counts.mark ≡ new.mark
+  pub marking : counts.marking ≡ new.mark
   pub floor : counts.floor ≡ new.floor
   pub flushed : (d : ℕ) → d < length old.names.items → counts.flushed d ≡ get_or new.flushed.items d 0
   pub sections : new.sections.items ≡ drop new.dropped story.sections
@@ -60,31 +61,35 @@ durable_as names more receipts given n p t story c moment history u e f h is =
     (subst (λ (l : List ℕ). IsDurable the_format the_names (db_of names) t story c (since moment p history) l u) (sym f)
     (subst (λ (x : Numbers). IsDurable the_format the_names (db_of names) t story c (since moment x history) receipts u) h is))
 
-module _ (old new : Log) (before after : Option Told) (asks : List Ask) (same : SameRun old new) (made : Makes asks before after) (safe : AreSafe old asks) where
+module _ (old new : Log) (same : SameRun old new) where
   flushed_as : (story : Story) (c : Counts) (v : Told) (s : Stands old new story c v) (d : ℕ) → d < length new.names.items → s.counts.flushed d ≡ get_or new.flushed.items d 0
   flushed_as story c v s d lt = s.flushed d (omega (arith, lt, ap length same.names))
 
+  -- calls that are done, with no section more that is synced
+  pub kept_on : new.receipts.items ≡ old.receipts.items → (t u : Told) (story : Story) (c : Counts) (history : ℕ → Numbers) → IsDurable the_format the_names (db_of old.names.items) t story c history old.receipts.items u → story.last ≡ old.last
+      → (asks : List Ask) → Safe (Good story c) asks u → (s : Stands old new story c (asked asks u)) → s.counts.s ≡ c.s → IsKept t story (since (length (asked asks u).calls) (numbers new) history) new (asked asks u)
+  kept_on receipts t u story c history k last asks safe s none =
+      let d = s.counts in
+      let on = goes_on the_format the_names (db_of old.names.items) t story c history old.receipts.items u k asks d safe s.rest none in
+      record {
+        counts = d;
+        durable = durable_as old.names.items new.names.items old.receipts.items new.receipts.items (numbers_of d) (numbers new) t story d (length (asked asks u).calls) history (asked asks u) same.names receipts
+            (numbers_are d new.mark new.mark new.floor (synced new) s.mark s.marking s.floor (none ∙ sym k.each ∙ sym (ap length receipts))) on;
+        tracks = s.tracks;
+        mark = s.mark;
+        marking = s.marking;
+        floor = s.floor;
+        flushed = flushed_as story c (asked asks u) s;
+        sections = s.sections;
+        last = last ∙ sym same.last;
+      }
+
+module _ (old new : Log) (before after : Option Told) (asks : List Ask) (same : SameRun old new) (made : Makes asks before after) (safe : AreSafe old asks) where
   -- no section more is synced
   pub keeps : new.receipts.items ≡ old.receipts.items → ((t u : Told) (story : Story) (history : ℕ → Numbers) (k : IsKept t story history old u) → (s : Stands old new story k.counts (asked asks u)) × (s.counts.s ≡ k.counts.s)) → Keeps old new before after
   keeps receipts stands t u story history is k =
       let st = stands t u story history k in
-      let s = st.0 in
-      let d = s.counts in
-      let on = goes_on the_format the_names (db_of old.names.items) t story k.counts history old.receipts.items u k.durable asks d (safe t u story history k) s.rest st.1 in (
-        asked asks u,
-        made u is,
-        record {
-          counts = d;
-          durable = durable_as old.names.items new.names.items old.receipts.items new.receipts.items (numbers_of d) (numbers new) t story d (length (asked asks u).calls) history (asked asks u) same.names receipts
-              (numbers_are d new.mark new.floor (synced new) s.mark s.floor (st.1 ∙ sym k.durable.each ∙ sym (ap length receipts))) on;
-          tracks = s.tracks;
-          mark = s.mark;
-          floor = s.floor;
-          flushed = flushed_as story k.counts (asked asks u) s;
-          sections = s.sections;
-          last = k.last ∙ sym same.last;
-        },
-      )
+      (asked asks u, made u is, kept_on old new same receipts t u story k.counts history k.durable k.last asks (safe t u story history k) st.0 st.1)
 
   -- one more, and its receipt is of the moment after these calls
   pub keeps_one : ((u : Told) → before ≡ Some u → new.receipts.items ≡ old.receipts.items ++ length (asked asks u).calls ∷ [])
@@ -100,11 +105,12 @@ module _ (old new : Log) (before after : Option Told) (asks : List Ask) (same : 
         record {
           counts = d;
           durable = durable_as old.names.items new.names.items given new.receipts.items (numbers_of d) (numbers new) t story d (length (asked asks u).calls) history (asked asks u) same.names (receipts u is)
-              (numbers_are d new.mark new.floor (synced new) s.mark s.floor (sym on.each ∙ sym (ap length (receipts u is)))) on;
+              (numbers_are d new.mark new.mark new.floor (synced new) s.mark s.marking s.floor (sym on.each ∙ sym (ap length (receipts u is)))) on;
           tracks = s.tracks;
           mark = s.mark;
+          marking = s.marking;
           floor = s.floor;
-          flushed = flushed_as story k.counts (asked asks u) s;
+          flushed = flushed_as old new same story k.counts (asked asks u) s;
           sections = s.sections;
           last = k.last ∙ sym same.last;
         },

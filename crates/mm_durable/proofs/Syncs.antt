@@ -267,7 +267,8 @@ module _ (old : Log) (sound : IsSound old) (t u : Told) (story : Story) (history
 
   rest_all : IsAtRest the_format the_names db story (record c { flushed = flushed_all }) u
   rest_all = record {
-    mark_floor = rest_then.mark_floor;
+    mark_marking = rest_then.mark_marking;
+    marking_floor = rest_then.marking_floor;
     floor_flushed = λ d. (flushed_within d).0;
     flushed_s = λ d. (flushed_within d).1;
     s_there = rest_then.s_there;
@@ -293,8 +294,8 @@ module _ (old : Log) (sound : IsSound old) (t u : Told) (story : Story) (history
           omega (arith, most, x.durable.each, ap (λ (b : Bool). cond b (c.flushed d) c.s) outside)
     ]
 
-    of_data : AreDataNames the_names (JournalPart the_format story c.mark c.s) (respects the_format story c.mark c.s) (LsnPart the_format story c.mark c.floor) (laid the_names story c.floor c.s) (state the_names story c.floor) (all_files names)
-    of_data = all_data (JournalPart the_format story c.mark c.s) (respects the_format story c.mark c.s) (LsnPart the_format story c.mark c.floor) (laid the_names story c.floor c.s) (state the_names story c.floor) names sound.names
+    of_data : AreDataNames the_names (JournalPart the_format story c.mark c.s) (respects the_format story c.mark c.s) (LsnPart the_format story c.mark c.marking) (laid the_names story c.floor c.s) (state the_names story c.floor) (all_files names)
+    of_data = all_data (JournalPart the_format story c.mark c.s) (respects the_format story c.mark c.s) (LsnPart the_format story c.mark c.marking) (laid the_names story c.floor c.s) (state the_names story c.floor) names sound.names
 
     pub syncs_safe : Safe (Good story c) (sync_asks (all_files names)) u
     syncs_safe = sync_safe the_format the_names db story x.durable.sound (record c { flushed = flushed_all }) u rest_all (all_files names) of_data floor above_now below
@@ -322,6 +323,7 @@ synced_to old new sound floor low above most same journal mark floor_is flushed 
         rest = syncs_rest old sound t u story history x floor low above most;
         tracks = subst (λ (f : files.Files). Tracks the_format f (record x.counts { flushed = flushed_all old sound t u story history x; floor = floor })) (sym journal) (record { first = x.tracks.first; lasts = x.tracks.lasts; end = x.tracks.end });
         mark = x.mark ∙ sym mark;
+        marking = x.marking ∙ sym mark;
         floor = sym floor_is;
         flushed = λ d lt. flushed_still old sound t u story history x floor low above most d lt ∙ sym (ap (λ (l : List ℕ). get_or l d 0) flushed);
         sections = sections ∙ x.sections ∙ sym (ap (λ n. drop n story.sections) dropped);

@@ -13,7 +13,7 @@ use Rattle.mm_journal.proofs.Real.{the_format, the_names}
 use Rattle.mm_prefix.specs.Prefix.{Numbers, PrefixAt, AreReceipts, since}
 use Rattle.mm_items.specs.Files.{AreLaid}
 use Rattle.mm_items.specs.Given.{Taken, images_of, sealed_parts}
-use Rattle.mm_durable.specs.Log.{IsSound, GoesOn, IsKept, KeepsRun, LetsGo, numbers, sealed}
+use Rattle.mm_durable.specs.Log.{IsSound, GoesOn, IsKept, KeepsRun, LetsGo, numbers, marking_numbers, sealed}
 use Rattle.mm_durable.specs.Intake.{is_ours, by_name, first_items, lists, group_of, has_seats, IsIntake, SameTaken}
 use Rattle.mm_durable.specs.declared.log.Log.{Log}
 use Rattle.mm_durable.specs.declared.durable.Durable.{Durable}
@@ -88,6 +88,16 @@ module _ {D : Type 0} where
   abbrev pub LeavesOff : Durable D → Durable D → Option Told → Option Told → Type 0
   LeavesOff old new before after = (t u : Told) (story : Story) (history : ℕ → Numbers) → before ≡ Some u → IsServed t u story history old.log (items_of old)
       → (v : Told) × (after ≡ Some v) × IsSafe t v story history new.log (items_of new)
+
+  -- The same of `mark_lsn`: within the call the floor is being marked, and past the moment at which it answers Ok the numbers are the new ones.
+  abbrev pub ServesMarking : Durable D → Durable D → Option Told → Option Told → Type 0
+  ServesMarking old new before after = (t u : Told) (story : Story) (history : ℕ → Numbers) → before ≡ Some u → IsServed t u story history old.log (items_of old)
+      → (v : Told) × (after ≡ Some v) × IsServed t v story (since (length v.calls) (numbers new.log) (since (length u.calls) (marking_numbers old.log) history)) new.log (items_of new)
+
+  -- a stopped `mark_lsn`: since it has begun the floor is being marked
+  abbrev pub LeavesMarking : Durable D → Durable D → Option Told → Option Told → Type 0
+  LeavesMarking old new before after = (t u : Told) (story : Story) (history : ℕ → Numbers) → before ≡ Some u → IsServed t u story history old.log (items_of old)
+      → (v : Told) × (after ≡ Some v) × IsSafe t v story (since (length u.calls) (marking_numbers old.log) history) new.log (items_of new)
 
   -- the same, but for the oldest sections, which all data files have, synced
   pub record SameButGone (old new : Durable D) : Type 0 where

@@ -29,6 +29,10 @@ pub record IsLeft (t u : Told) (m : ℕ) (image : Image) : Type 0 where
 abbrev pub EachMomentIsPrefix : Log → Type 0
 EachMomentIsPrefix log = (t u : Told) (story : Story) (history : ℕ → Numbers) → IsKept t story history log u → (m : ℕ) (image : Image) → IsLeft t u m image → IsPrefix the_format the_names story (history m) image
 
+-- the same of a side that a stopped call has ended
+abbrev pub EachMomentIsSafe : {D : Type 0} → Durable D → Type 0
+EachMomentIsSafe d = (t u : Told) (story : Story) (history : ℕ → Numbers) → IsSafe t u story history d.log (items_of d) → (m : ℕ) (image : Image) → IsLeft t u m image → IsPrefix the_format the_names story (history m) image
+
 -- what its recovery has, also after crashes within recoveries
 abbrev pub RecoversPrefix : Log → Type 0
 RecoversPrefix log = (t u : Told) (story : Story) (history : ℕ → Numbers) → IsKept t story history log u → (m : ℕ) (image : Image) → IsLeft t u m image → (images : List Image) → AreLeft the_format the_names image images

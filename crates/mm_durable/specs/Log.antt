@@ -34,8 +34,13 @@ pending_sections log = drop (synced log - log.dropped) log.sections.items
 abbrev pub is_marked : Log → Bool
 is_marked log = log.mark == synced log && synced log == sealed log
 
+-- the numbers between two calls: no marking has begun that hasn't answered
 abbrev pub numbers : Log → Numbers
-numbers log = record { mark = log.mark; floor = log.floor; synced = length log.receipts.items }
+numbers log = record { mark = log.mark; marking = log.mark; floor = log.floor; synced = length log.receipts.items }
+
+-- the numbers since `mark_lsn` has begun, until it answers Ok: the floor is being marked
+abbrev pub marking_numbers : Log → Numbers
+marking_numbers log = record { mark = log.mark; marking = log.floor; floor = log.floor; synced = length log.receipts.items }
 
 -- the greatest number that none of these is below
 pub record IsLeast (n : ℕ) (xs : List ℕ) (one : ℕ) : Type 0 where
@@ -172,6 +177,7 @@ pub record IsKept (t : Told) (story : Story) (history : ℕ → Numbers) (log : 
   pub durable : IsDurable the_format the_names (db_of log.names.items) t story counts history log.receipts.items u
   pub tracks : Tracks the_format log.journal counts
   pub mark : counts.mark ≡ log.mark
+  pub marking : counts.marking ≡ log.mark
   pub floor : counts.floor ≡ log.floor
   pub flushed : (d : ℕ) → d < length log.names.items → counts.flushed d ≡ get_or log.flushed.items d 0
   pub sections : log.sections.items ≡ drop log.dropped story.sections
@@ -191,6 +197,16 @@ HasNoReceipt log section = (section ≤ log.last) ⊎ (log.last + synced log < s
 abbrev pub Keeps : Log → Log → Option Told → Option Told → Type 0
 Keeps old new before after = (t u : Told) (story : Story) (history : ℕ → Numbers) → before ≡ Some u → IsKept t story history old u → (v : Told) × (after ≡ Some v) × IsKept t story (since (length v.calls) (numbers new) history) new v
 
+-- The same of `mark_lsn`: within the call the floor is being marked, and past the moment at which it answers Ok the numbers are the new ones.
+abbrev pub KeepsMarking : Log → Log → Option Told → Option Told → Type 0
+KeepsMarking old new before after = (t u : Told) (story : Story) (history : ℕ → Numbers) → before ≡ Some u → IsKept t story history old u
+    → (v : Told) × (after ≡ Some v) × IsKept t story (since (length v.calls) (numbers new) (since (length u.calls) (marking_numbers old) history)) new v
+
 -- a call that is stopped leaves nothing else either, with the numbers as they were
 abbrev pub Leaving : Log → Option Told → Option Told → Type 0
 Leaving old before after = (t u : Told) (story : Story) (history : ℕ → Numbers) → before ≡ Some u → IsKept t story history old u → (v : Told) × (after ≡ Some v) × Leaves (PrefixAt the_format the_names story history) t v
+
+-- a stopped `mark_lsn`: since it has begun the floor is being marked
+abbrev pub LeavingMarking : Log → Option Told → Option Told → Type 0
+LeavingMarking old before after = (t u : Told) (story : Story) (history : ℕ → Numbers) → before ≡ Some u → IsKept t story history old u
+    → (v : Told) × (after ≡ Some v) × Leaves (PrefixAt the_format the_names story (since (length u.calls) (marking_numbers old) history)) t v

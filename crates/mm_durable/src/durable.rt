@@ -16,7 +16,7 @@ ghost use Rattle.mm_durable.specs.Names.{AreDatabases, all_files};
 ghost use Rattle.mm_durable.specs.Log.{IsSound, GoesOn, IsKept, IsBegun, IsFloor, KeepsRun, KeepsCounts, HasLogged, HasFlushed, HasSynced, HasMarked, HasTrimmed, HasCleared, HasMore, HasReceipt, HasNoReceipt, sealed, synced, pending_sections, has_pending, is_marked, no_files, oldest_asks, with_oldest, floor_asks, trim_asks, clear_asks};
 ghost use Rattle.mm_durable.specs.Intake.{IsIntake, IsOwn, HasTaken, HasEntry, KeepsFeeds, GivesNext, lists, rooms, rings};
 ghost use Rattle.mm_durable.specs.Flushed.{flushed_bytes, unflushed, flush_asks};
-ghost use Rattle.mm_durable.specs.Durable.{IsOrderly, IsServed, ReadItems, Serves, StillServes, StaysSafe, ServesSealed, LeavesOff, SameItems, SameButGone, AllClosed, items_of, is_ready, has_closed, next_section};
+ghost use Rattle.mm_durable.specs.Durable.{IsOrderly, IsServed, ReadItems, Serves, ServesMarking, StillServes, StaysSafe, ServesSealed, LeavesOff, LeavesMarking, SameItems, SameButGone, AllClosed, items_of, is_ready, has_closed, next_section};
 
 use crate::intake::Intake;
 use crate::log::{Log, Receipt};
@@ -278,7 +278,8 @@ impl<D: Disk> Durable<D> {
         Ok(())
     }
 
-    /// Writes the floor's number into the lsn file and syncs it, where it isn't there yet.
+    /// Writes the floor's number into the lsn file and syncs it, where it isn't there yet. What a crash leaves of that file since the call
+    /// has begun, and until it answers Ok, can't be read, or is the number from before or the floor's; it stays so where the call is stopped.
     pub fn mark_lsn(&mut self) -> Result<(), Device>
         requires orderly { IsOrderly self.old }
         requires going { self.old.ended ≡ false }
@@ -289,8 +290,8 @@ impl<D: Disk> Durable<D> {
         ensures still { self.old.log.mark ≡ self.old.log.floor → D.told self.new.disk ≡ D.told self.old.disk }
         ensures journal { OnOk result (self.new.log.journal ≡ self.old.log.journal) }
         ensures made { OnOk result (Makes (floor_asks self.old.log) (D.told self.old.disk) (D.told self.new.disk)) }
-        ensures kept { OnOk result (Serves self.old self.new (D.told self.old.disk) (D.told self.new.disk)) }
-        ensures left { OnErr result (LeavesOff self.old self.new (D.told self.old.disk) (D.told self.new.disk)) }
+        ensures kept { OnOk result (ServesMarking self.old self.new (D.told self.old.disk) (D.told self.new.disk)) }
+        ensures left { OnErr result (LeavesMarking self.old self.new (D.told self.old.disk) (D.told self.new.disk)) }
         ensures going { OnOk result (self.new.ended ≡ false) }
         ensures ended { OnErr result (self.new.ended ≡ true) }
         ensures cause { HasCause Fault (D.faults self.old.disk) (D.faults self.new.disk) result }

@@ -55,7 +55,7 @@ impl Log {
     ghost use Rattle.mm_prefix.specs.Prefix.{Numbers, at_first};
     ghost use Rattle.mm_durable.specs.Names.{AreDatabases, ArePartsOf, all_files};
     ghost use Rattle.mm_durable.specs.Flushed.{flushed_bytes, unflushed, flush_asks};
-    ghost use Rattle.mm_durable.specs.Log.{IsFloor, IsSound, GoesOn, IsKept, IsBegun, KeepsRun, KeepsCounts, LetsGo, HasLogged, HasFlushed, HasSynced, HasMarked, HasTrimmed, HasCleared, HasMore, Keeps, Leaving, HasReceipt, HasNoReceipt, sealed, synced, pending_sections, has_pending, is_marked, no_files, oldest_asks, with_oldest, floor_asks, trim_asks, clear_asks};
+    ghost use Rattle.mm_durable.specs.Log.{IsFloor, IsSound, GoesOn, IsKept, IsBegun, KeepsRun, KeepsCounts, LetsGo, HasLogged, HasFlushed, HasSynced, HasMarked, HasTrimmed, HasCleared, HasMore, Keeps, KeepsMarking, Leaving, LeavingMarking, HasReceipt, HasNoReceipt, sealed, synced, pending_sections, has_pending, is_marked, no_files, oldest_asks, with_oldest, floor_asks, trim_asks, clear_asks};
 
     /// A run that has no section yet, over a disk that was recovered, with this number in its lsn file.
     pub fn start(alloc: Global, names: Vec<Name>, limit: u64, last: u64) -> Result<Log, NoMemory>
@@ -321,8 +321,8 @@ impl Log {
         ensures still { self.old.mark ≡ self.old.floor → D.told disk.new ≡ D.told disk.old }
         ensures journal { OnOk result (self.new.journal ≡ self.old.journal) }
         ensures made { OnOk result (Makes (floor_asks self.old) (D.told disk.old) (D.told disk.new)) }
-        ensures kept { OnOk result (Keeps self.old self.new (D.told disk.old) (D.told disk.new)) }
-        ensures left { OnErr result (Leaving self.old (D.told disk.old) (D.told disk.new)) }
+        ensures kept { OnOk result (KeepsMarking self.old self.new (D.told disk.old) (D.told disk.new)) }
+        ensures left { OnErr result (LeavingMarking self.old (D.told disk.old) (D.told disk.new)) }
         ensures cause { HasCause Fault (D.faults disk.old) (D.faults disk.new) result }
     {
         if self.mark < self.floor {

@@ -1,19 +1,17 @@
-use Rattle.std.proofs.Common.{◌+◌, refl, arith}
-use Rattle.mm_jfiles.specs.Marks.{mark_asks}
-use Rattle.mm_durable.proofs.Steps.{on_err_holds, leaving}
-use Rattle.mm_durable.proofs.Marks.{marks_floor, marks_nothing, marking_safe, marked, idle}
+use Rattle.std.proofs.Common.{refl, arith}
+use Rattle.mm_durable.proofs.Steps.{on_err_holds}
+use Rattle.mm_durable.proofs.Marks.{marks_floor, marks_nothing, marking_left, marked, marked_before}
 use Rattle.mm_durable.proofs.log.Log.mark_lsn.Goals as goal
 
 pub returns-in_err-write_mark-clause-left : goal.returns-in_err-write_mark-clause-left
 returns-in_err-write_mark-clause-left g c =
-    let old = c.args.self.now in
-    on_err_holds c.from_residual.result _ (leaving old _ _ (mark_asks (old.last + old.floor)) c.write_mark.ensures.cut (marking_safe old c.requires.sound))
+    on_err_holds c.from_residual.result _ (marking_left c.args.self.now c.requires.sound _ _ c.write_mark.ensures.cut)
 
 pub returns-in_ok-write_mark-clause-kept : goal.returns-in_ok-write_mark-clause-kept
 returns-in_ok-write_mark-clause-kept g c = marked c.args.self.now c.requires.sound _ _ c.in_ok-write_mark.ensures.made
 
 pub returns-else-self-clause-kept : goal.returns-else-self-clause-kept
-returns-else-self-clause-kept g c = idle c.args.self.now c.requires.sound _
+returns-else-self-clause-kept g c = marked_before c.args.self.now c.requires.sound _
 
 pub returns-in_err-write_mark-clause-still : goal.returns-in_err-write_mark-clause-still
 returns-in_err-write_mark-clause-still g c = λ same. absurd (omega (arith, same, c.if-self.true))
