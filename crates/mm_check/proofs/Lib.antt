@@ -33,3 +33,10 @@ pub mod CheckLaws
 pub mod FoundRecords
 pub mod FileLoops
 pub mod CodeTests
+pub mod FoundBlocks
+pub mod FoundHeap
+pub mod NodeOwners
+pub mod OwnedLists
+pub mod FoundLists
+pub mod FreeNames
+pub mod FoundStands

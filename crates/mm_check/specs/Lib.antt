@@ -16,3 +16,4 @@ pub mod BlockMap
 pub mod TheCheck
 pub mod Reports
 pub mod PhaseOrder
+pub mod Standing

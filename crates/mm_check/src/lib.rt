@@ -13,7 +13,8 @@
 //!   `file_extents`, `node_extents`, `first_lost`, `live_records`, `deleted_blocks`, `first_gap_of` and `wrong_counts`. Those that follow
 //!   chains answer all places exactly where each chain is whole, else the one place that is first wrong.
 //!
-//! The laws of single phases aren't joined to one law on all of them yet. Each walk ends on any bytes. Want of memory has its own answer.
+//! From the check to what stands the laws of the phases are joined (`found_shape_stands`); the other way they aren't yet. Each walk ends on any
+//! bytes. Want of memory has its own answer.
 #![tactic(auto)]
 
 mod chains;
@@ -25,6 +26,7 @@ mod forms;
 mod frames;
 mod gaps;
 mod hash;
+mod laws;
 mod lists;
 mod lost;
 mod nodes;
@@ -40,6 +42,7 @@ mod table;
 pub use counts::wrong_counts;
 pub use files::wrong_file;
 pub use gaps::first_gap_of;
+pub use laws::found_shape_stands;
 pub use lost::first_lost;
 pub use order::check_files;
 pub use owners::Owned;
