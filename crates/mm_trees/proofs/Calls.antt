@@ -1,5 +1,5 @@
 -- What the calls on a node's records ask, and what they make of its buckets.
-use Rattle.std.proofs.Common.{◌≡◌, ℕ, ◌+◌, ◌≤◌, true, List, length, take, Option, Some, None, cond, refl, sym, ◌∙◌, ap, subst, arith}
+use Rattle.std.proofs.Common.{◌≡◌, ℕ, ◌+◌, ◌*◌, ◌≤◌, true, List, length, take, Option, Some, None, cond, refl, sym, ◌∙◌, ap, subst, arith}
 use Rattle.std.specs.Option.{option_map}
 use Rattle.mm_base.specs.Bytes.{part, overwritten}
 use Rattle.mm_base.specs.Places.{null, place_bytes}
@@ -16,9 +16,10 @@ use Rattle.mm_nstable.proofs.Tables.{table_at}
 use Rattle.mm_records.specs.Constants.{SameConstants, constants_of}
 use Rattle.mm_records.specs.Shape.{Shape}
 use Rattle.mm_records.specs.Stands.{Stands, ns_in}
-use Rattle.mm_records.specs.Map.{live_at, name_at, IsTakenOut, IsRewritten}
+use Rattle.mm_records.specs.Map.{live_at, name_at, IsFreed, IsRewritten}
 use Rattle.mm_records.specs.Allocating.{IsAllocated}
 use Rattle.mm_records.proofs.Owning.{lives}
+use Rattle.mm_records.proofs.Serving.{shorter, freed_serves, rewritten_serves, alloc_serves}
 use Rattle.mm_bucket.specs.Pairs.{Contents}
 use Rattle.mm_bucket.specs.Layout.{Spells}
 use Rattle.mm_bucket.specs.Rules.{children, AreAlike}
@@ -29,7 +30,7 @@ use Rattle.mm_trees.specs.Walked.{spot_in}
 use Rattle.mm_trees.specs.Buckets.{contents_in, bucket_in, node_in, shown_there, IsRoom, Holds, IsStep}
 use Rattle.mm_trees.proofs.Following.{spot_loc}
 use Rattle.mm_trees.proofs.Showing.{spelled_is, one_owner, room_front, bucket_is, Found}
-use Rattle.mm_trees.proofs.Steps.{front_overwritten, IsOneChange, one_goes, one_step}
+use Rattle.mm_trees.proofs.Steps.{front_overwritten, IsOneChange, one_goes, one_step, serves_all}
 
 -- ---- names and details
 
@@ -97,7 +98,7 @@ module _ (image : Image) (free : List ℕ) (s : Shape) (node : ℕ) (at : DiskLo
     pub new_node : option_map node_in (Some (overwritten 0 bytes f.room)) ≡ Some (node_of b)
     new_node = ap (λ (x : Contents). Some (node_of x)) (spelled_is (part 0 8192 (overwritten 0 bytes f.room)) b new_spelled)
 
-    pub written_change : (new : Image) (t : Shape) → ns_in new ≡ ns_in image → Stands new free t → IsRewritten s t f.p (overwritten 0 bytes f.room) → IsOneChange image new free s t node at (Some (overwritten 0 bytes f.room))
+    pub written_change : (new : Image) (t : Shape) → ns_in new ≡ ns_in image → Stands new free t → IsRewritten s t f.p (overwritten 0 bytes f.room) → IsOneChange image new free s t node 0 at (Some (overwritten 0 bytes f.room))
     written_change new t ns st r = record {
       stands = st;
       names = same_names (ns_in image) (ns_in new) ns;
@@ -108,6 +109,7 @@ module _ (image : Image) (free : List ℕ) (s : Shape) (node : ℕ) (at : DiskLo
       elsewhere = r.others;
       foreign = λ m no. let none = one_owner s (name_at image node) m f.p f.room f.live no in r.here m ∙ ap (option_map (λ (_ : List ℕ). overwritten 0 bytes f.room)) none ∙ sym none;
       room = λ x e. let z : overwritten 0 bytes f.room ≡ x = cc in subst IsRoom z new_room;
+      serves = serves_all s t (name_at image node) (λ k b. rewritten_serves s t f.p (overwritten 0 bytes f.room) st.lists r (name_at image node) k b);
     }
 
   -- the whole bucket
@@ -127,17 +129,18 @@ module _ (image : Image) (free : List ℕ) (s : Shape) (node : ℕ) (at : DiskLo
 
   -- ---- taking it out
 
-  pub freed_change : (new : Image) (t : Shape) → Stands new free t → SameNames (ns_in image) (ns_in new) → SameConstants (ns_in image) (ns_in new) → IsTakenOut s t f.p → IsOneChange image new free s t node at None
+  pub freed_change : (new : Image) (t : Shape) → Stands new free t → SameNames (ns_in image) (ns_in new) → SameConstants (ns_in image) (ns_in new) → IsFreed s t (name_at image node) f.p (16 + length f.room) → IsOneChange image new free s t node 0 at None
   freed_change new t st n c r = record {
     stands = st;
     names = n;
     constants = same_details (ns_in image) (ns_in new) h.stands.table st.table n c;
     p = f.p;
     spot = f.spot;
-    here = r.gone (name_at image node);
-    elsewhere = r.others;
-    foreign = λ m no. r.gone m ∙ sym (one_owner s (name_at image node) m f.p f.room f.live no);
+    here = r.map.gone (name_at image node);
+    elsewhere = r.map.others;
+    foreign = λ m no. r.map.gone m ∙ sym (one_owner s (name_at image node) m f.p f.room f.live no);
     room = λ x e. absurd cc;
+    serves = serves_all s t (name_at image node) (λ k b. freed_serves s t (name_at image node) f.p (16 + length f.room) st.lists r (name_at image node) k b);
   }
 
 -- ---- a new record
@@ -160,7 +163,7 @@ module _ (image new : Image) (free : List ℕ) (s t : Shape) (node : ℕ) (h : H
   pub added_node : option_map node_in (Some c.room) ≡ Some (node_of b)
   added_node = ap (λ (x : Contents). Some (node_of x)) (ap contents_in new_front ∙ spelled_is bytes b sp)
 
-  pub added_change : SameNames (ns_in image) (ns_in new) → SameConstants (ns_in image) (ns_in new) → IsOneChange image new free s t node at (Some c.room)
+  pub added_change : SameNames (ns_in image) (ns_in new) → SameConstants (ns_in image) (ns_in new) → IsOneChange image new free s t node 1 at (Some c.room)
   added_change n d = record {
     stands = st;
     names = n;
@@ -171,6 +174,7 @@ module _ (image new : Image) (free : List ℕ) (s t : Shape) (node : ℕ) (h : H
     elsewhere = c.others;
     foreign = λ m no. one_owner t (name_at image node) m p c.room c.here no ∙ sym (c.fresh m);
     room = λ x e. let z : c.room ≡ x = cc in subst IsRoom z added_room;
+    serves = λ k some b. alloc_serves image s t free (name_at image node) p 8208 bytes st.lists c k some (shorter s (name_at image node) (8208 * 1 + k) (8208 + k) (omega arith) b);
   }
 
   pub was_free : bucket_in image node at ≡ None
@@ -182,15 +186,15 @@ module _ (image new : Image) (free : List ℕ) (s t : Shape) (node : ℕ) (h : H
 -- ---- one change, as a step of the buckets
 
 -- a shape of the new files, and what has become of the record
-pub record Becomes (old new : Image) (free : List ℕ) (s : Shape) (node : ℕ) (at : DiskLoc) (v : Option Node) : Type 0 where
+pub record Becomes (old new : Image) (free : List ℕ) (s : Shape) (node places : ℕ) (at : DiskLoc) (v : Option Node) : Type 0 where
   pub t : Shape
   pub w : Option (List ℕ)
-  pub change : IsOneChange old new free s t node at w
+  pub change : IsOneChange old new free s t node places at w
   pub node_is : option_map node_in w ≡ v
 
-pub step_of : (old new : Image) (node : ℕ) (at : DiskLoc) (v : Option Node) (free : List ℕ) (s : Shape) → Holds old free s node
-    → ((free : List ℕ) (s : Shape) → Holds old free s node → Becomes old new free s node at v) → IsStep old new node (put (bucket_in old node) at v)
-step_of old new node at v free s h f = record {
-  buckets = λ q. let x = f free s h in one_step old new free s x.t node at x.w h x.change q ∙ ap (λ (z : Option Node). cond (place_eq q at) z (bucket_in old node q)) x.node_is;
-  goes = λ free s h. let x = f free s h in one_goes old new free s x.t node at x.w h x.change;
+pub step_of : (old new : Image) (node places : ℕ) (at : DiskLoc) (v : Option Node) (free : List ℕ) (s : Shape) → Holds old free s node
+    → ((free : List ℕ) (s : Shape) → Holds old free s node → Becomes old new free s node places at v) → IsStep old new node places (put (bucket_in old node) at v)
+step_of old new node places at v free s h f = record {
+  buckets = λ q. let x = f free s h in one_step old new free s x.t node places at x.w h x.change q ∙ ap (λ (z : Option Node). cond (place_eq q at) z (bucket_in old node q)) x.node_is;
+  goes = λ free s h. let x = f free s h in one_goes old new free s x.t node places at x.w h x.change;
 }

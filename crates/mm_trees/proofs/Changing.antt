@@ -45,8 +45,8 @@ same_pair d e position i = ap (λ (x : Details). pair_of x position) i
 same_count : (d e : Details) → constants_of d ≡ constants_of e → d.n_indexes ≡ e.n_indexes
 same_count d e i = ap (λ (x : Details). x.n_indexes) i
 
-module _ (old new : Image) (node owner position : ℕ) (spec : Elements) (pairs list : List Item) (x : HasIndex old node owner position spec pairs) (g : Goes old new node) where
-  abbrev went : (t : Shape) × (Holds new x.free t node × Keeps old new x.shape t node)
+module _ (old new : Image) (node owner position : ℕ) (spec : Elements) (pairs list : List Item) (x : HasIndex old node owner position spec pairs) (places : ℕ) (g : Goes old new node places) where
+  abbrev went : (t : Shape) × (Holds new x.free t node × Keeps old new x.shape t node places)
   went = g x.free x.shape x.holds
 
   same_owner : name_at new owner ≡ name_at old owner
@@ -84,8 +84,8 @@ with_same d e position i = i ∙ ap constants_of (with_own e position)
     with_own : (e : Details) (position : ℕ) → e ≡ with_root e position (pair_of e position).head
     with_own e position = ap (λ (ps : List IndexPair). record e { indexes = ps }) (sym (set-get_or e.indexes position no_pair))
 
-pub goes_beside : (old new : Image) (node owner position : ℕ) → Goes old new node → GoesBeside old new node owner position
-goes_beside old new node owner position g free s h o low =
+pub goes_beside : (old new : Image) (node owner position places : ℕ) → Goes old new node places → GoesBeside old new node owner position places
+goes_beside old new node owner position places g free s h o low =
     let x = g free s h in (
       x.0,
       (
@@ -95,6 +95,7 @@ goes_beside old new node owner position g free s h o low =
           names = x.1.1.names;
           constants = λ k u ne. x.1.1.constants k u;
           owner_constants = (root_in old owner position, with_same (details_in (node_at (ns_in new) owner)) (details_in (node_at (ns_in old) owner)) position (x.1.1.constants owner o.used));
+          serves = x.1.1.serves;
         },
       ),
     )
@@ -148,8 +149,8 @@ module _ (mid new : Image) (owner position : ℕ) (root : DiskLoc) (p : IsRootPu
       whole = λ at out. ap (λ (m : Buckets). m at) buckets_stay ∙ whole at out;
     }
 
-module _ (old mid new : Image) (node owner position : ℕ) (root : DiskLoc) (g : Goes old mid node) (p : IsRootPut mid new owner position root) (inside : position < 10) where
-  pub goes_put : GoesBeside old new node owner position
+module _ (old mid new : Image) (node owner position places : ℕ) (root : DiskLoc) (g : Goes old mid node places) (p : IsRootPut mid new owner position root) (inside : position < 10) where
+  pub goes_put : GoesBeside old new node owner position places
   goes_put free s h o low =
       let x = g free s h in
       let o' : IsNode mid free owner = record { used = x.1.1.names.used owner ∙ o.used; isnt_free = λ e. o.isnt_free (sym (x.1.1.names.names owner o.used) ∙ e) } in
@@ -166,24 +167,25 @@ module _ (old mid new : Image) (node owner position : ℕ) (root : DiskLoc) (g :
             };
             constants = λ k u ne. ap constants_of (p.others k (x.1.1.names.used k ∙ u) ne) ∙ x.1.1.constants k u;
             owner_constants = (root, ap constants_of p.here ∙ ap (λ (z : Details). with_root z position root) same);
+            serves = x.1.1.serves;
           },
         ),
       )
 
 -- a change of the tree, and then its new root is named
-pub index_changed : (old mid new : Image) (node owner position : ℕ) (spec : Elements) (pairs list : List Item) (x : HasIndex old node owner position spec pairs) (g : Goes old mid node) (root : DiskLoc) (p : IsRootPut mid new owner position root)
+pub index_changed : (old mid new : Image) (node owner position : ℕ) (spec : Elements) (pairs list : List Item) (x : HasIndex old node owner position spec pairs) (places : ℕ) (g : Goes old mid node places) (root : DiskLoc) (p : IsRootPut mid new owner position root)
     (h : ℕ) (t : Sub) → IsChanged (item_lt spec) (bucket_in old node) (bucket_in mid node) root h x.s list t → HasIndex new node owner position spec list
-index_changed old mid new node owner position spec pairs list x g root p h t c =
+index_changed old mid new node owner position spec pairs list x places g root p h t c =
     let w = g x.free x.shape x.holds in
-    index_put mid new owner position root p x.inside x.free node w.0 w.1.0 (owner_again old mid node owner position spec pairs list x g) (counted_again old mid node owner position spec pairs list x g)
+    index_put mid new owner position root p x.inside x.free node w.0 w.1.0 (owner_again old mid node owner position spec pairs list x places g) (counted_again old mid node owner position spec pairs list x places g)
     spec list h t c.tree c.holds (still_whole (item_lt spec) (bucket_in old node) (bucket_in mid node) root h x.s t list c x.whole)
 
 -- what naming a root asks, after a change
-pub table_after : (old new : Image) (node : ℕ) (free : List ℕ) (s : Shape) → Holds old free s node → Goes old new node → IsTable (ns_in new)
-table_after old new node free s h g = (g free s h).1.0.stands.table
+pub table_after : (old new : Image) (node places : ℕ) (free : List ℕ) (s : Shape) → Holds old free s node → Goes old new node places → IsTable (ns_in new)
+table_after old new node places free s h g = (g free s h).1.0.stands.table
 
-pub owner_used : (old new : Image) (node owner : ℕ) (free : List ℕ) (s : Shape) → Holds old free s node → is_used (ns_in old) owner ≡ true → Goes old new node → is_used (ns_in new) owner ≡ true
-owner_used old new node owner free s h u g = (g free s h).1.1.names.used owner ∙ u
+pub owner_used : (old new : Image) (node owner places : ℕ) (free : List ℕ) (s : Shape) → Holds old free s node → is_used (ns_in old) owner ≡ true → Goes old new node places → is_used (ns_in new) owner ≡ true
+owner_used old new node owner places free s h u g = (g free s h).1.1.names.used owner ∙ u
 
 -- ---- what the calls make of an index
 
@@ -195,29 +197,29 @@ module _ (old : Image) (node owner position : ℕ) (spec : Elements) (root : Dis
   lacking_at pairs i l = subst (IsLacking spec x) (sym i.listed) l
 
   -- a pair is put in, and the root stays
-  pub put_none : (new : Image) → Goes old new node → IsPutIn spec (bucket_in old node) (bucket_in new node) root x None
+  pub put_none : (new : Image) (places : ℕ) → Goes old new node places → IsPutIn spec (bucket_in old node) (bucket_in new node) root x None
       → (pairs : List Item) → HasIndex old node owner position spec pairs → IsLacking spec x pairs → HasIndex new node owner position spec (ins (item_lt spec) x pairs)
-  put_none new g f pairs i l =
+  put_none new places g f pairs i l =
       let y = f i.height i.s (tree_at pairs i) (lacking_at pairs i l) in
       let c = subst (λ (ps : List Item). IsChanged (item_lt spec) (bucket_in old node) (bucket_in new node) root y.0 i.s (ins (item_lt spec) x ps) y.1.0) i.listed y.1.1 in
-      index_again old new node owner position spec pairs (ins (item_lt spec) x pairs) i g y.0 y.1.0
+      index_again old new node owner position spec pairs (ins (item_lt spec) x pairs) i places g y.0 y.1.0
       (subst (λ (r : DiskLoc). IsChanged (item_lt spec) (bucket_in old node) (bucket_in new node) r y.0 i.s (ins (item_lt spec) x pairs) y.1.0) is c)
 
   -- there is a new one
-  pub put_some : (mid new : Image) (top : DiskLoc) → Goes old mid node → IsPutIn spec (bucket_in old node) (bucket_in mid node) root x (Some top) → IsRootPut mid new owner position top
+  pub put_some : (mid new : Image) (top : DiskLoc) (places : ℕ) → Goes old mid node places → IsPutIn spec (bucket_in old node) (bucket_in mid node) root x (Some top) → IsRootPut mid new owner position top
       → (pairs : List Item) → HasIndex old node owner position spec pairs → IsLacking spec x pairs → HasIndex new node owner position spec (ins (item_lt spec) x pairs)
-  put_some mid new top g f p pairs i l =
+  put_some mid new top places g f p pairs i l =
       let y = f i.height i.s (tree_at pairs i) (lacking_at pairs i l) in
       let c = subst (λ (ps : List Item). IsChanged (item_lt spec) (bucket_in old node) (bucket_in mid node) top y.0 i.s (ins (item_lt spec) x ps) y.1.0) i.listed y.1.1 in
-      index_changed old mid new node owner position spec pairs (ins (item_lt spec) x pairs) i g top p y.0 y.1.0 c
+      index_changed old mid new node owner position spec pairs (ins (item_lt spec) x pairs) i places g top p y.0 y.1.0 c
 
   -- a pair is taken out
-  pub taken_out : (mid new : Image) (top : DiskLoc) → Goes old mid node → IsTaken spec (bucket_in old node) (bucket_in mid node) root x top → IsRootPut mid new owner position top
+  pub taken_out : (mid new : Image) (top : DiskLoc) (places : ℕ) → Goes old mid node places → IsTaken spec (bucket_in old node) (bucket_in mid node) root x top → IsRootPut mid new owner position top
       → (pairs : List Item) → HasIndex old node owner position spec pairs → HasIndex new node owner position spec (without spec x pairs)
-  taken_out mid new top g f p pairs i =
+  taken_out mid new top places g f p pairs i =
       let y = f i.height i.s (tree_at pairs i) in
       let c = subst (λ (ps : List Item). IsChanged (item_lt spec) (bucket_in old node) (bucket_in mid node) top y.0 i.s (without spec x ps) y.1.0) i.listed y.1.1 in
-      index_changed old mid new node owner position spec pairs (without spec x pairs) i g top p y.0 y.1.0 c
+      index_changed old mid new node owner position spec pairs (without spec x pairs) i places g top p y.0 y.1.0 c
 
 -- ---- an index is made
 
@@ -232,7 +234,7 @@ empty_tree lt m at e = record {
   order = tt;
 }
 
-pub made : (old mid new : Image) (node owner position : ℕ) (spec : Elements) (root : DiskLoc) (i : IsUnmade old node owner position) (s : IsStep old mid node (put (bucket_in old node) root (Some (record { parent = null; pairs = []; kids = [] }))))
+pub made : (old mid new : Image) (node owner position : ℕ) (spec : Elements) (root : DiskLoc) (i : IsUnmade old node owner position) (s : IsStep old mid node 1 (put (bucket_in old node) root (Some (record { parent = null; pairs = []; kids = [] }))))
     → IsRootPut mid new owner position root → HasIndex new node owner position spec []
 made old mid new node owner position spec root i s p =
     let w = s.goes i.free i.shape i.holds in

@@ -1,11 +1,14 @@
 -- A store that no call gave up holds buckets, and one more call keeps it so.
-use Rattle.std.proofs.Common.{◌≡◌, ℕ, Bool, true, false, List, Option, None, IsSome, cond, refl, sym, ◌∙◌, ap, subst}
+use Rattle.std.proofs.Common.{◌≡◌, ℕ, ◌+◌, ◌*◌, Bool, true, false, List, Option, None, IsSome, cond, refl, sym, ◌∙◌, ap, subst, arith}
 use Rattle.mm_base.specs.declared.place.DiskLoc.{DiskLoc}
 use Rattle.mm_views.specs.State.{Drafting}
 use Rattle.mm_records.specs.Shape.{Shape}
+use Rattle.mm_records.specs.Map.{name_at}
 use Rattle.mm_records.specs.Asking.{NoFit}
+use Rattle.mm_records.specs.Serving.{HasBlock}
+use Rattle.mm_records.proofs.Serving.{shorter}
 use Rattle.mm_btree.specs.Nodes.{Node, Buckets, put, place_eq}
-use Rattle.mm_trees.specs.Buckets.{Holds, IsStep, IsFull, bucket_in}
+use Rattle.mm_trees.specs.Buckets.{Holds, Goes, IsStep, IsFull, IsScarce, bucket_in}
 use Rattle.mm_trees.specs.Kept.{Kept, IsKept, bucket_of, is_full_of}
 use Rattle.mm_trees.proofs.Steps.{goes_on, goes_back}
 
@@ -35,24 +38,45 @@ pub seen_bucket : (k : Kept) (at : DiskLoc) (v : Option Node) → k.broken ≡ f
 seen_bucket k at v b e = ap (λ (x : Bool). cond x None (bucket_in k.draft.image k.node at)) b ∙ e
 
 -- after a step
-abbrev pub after : Kept → Drafting → Kept
-after k d = record { draft = d; node = k.node; broken = false; start = k.start }
+abbrev pub after : Kept → Drafting → ℕ → Kept
+after k d asked = record { draft = d; node = k.node; broken = false; start = k.start; asked = asked }
 
-pub kept_on : (k : Kept) (d : Drafting) (m : Buckets) → IsKept k → k.broken ≡ false → IsStep k.draft.image d.image k.node m → IsKept (after k d)
-kept_on k d m i b s = λ _. let r = i b in record { free = r.free; s = r.s; held = r.held; goes = goes_on k.start.image k.draft.image d.image k.node r.goes s.goes }
+pub kept_on : (k : Kept) (d : Drafting) (places asked : ℕ) (m : Buckets) → asked ≡ k.asked + places → IsKept k → k.broken ≡ false → IsStep k.draft.image d.image k.node places m → IsKept (after k d asked)
+kept_on k d places asked m e i b s = λ _.
+    let r = i b in
+    record {
+      free = r.free;
+      s = r.s;
+      held = r.held;
+      goes = subst (λ (n : ℕ). Goes k.start.image d.image k.node n) (sym e) (goes_on k.start.image k.draft.image d.image k.node k.asked places r.goes s.goes);
+    }
 
-pub step_seen : (k : Kept) (d : Drafting) (at : DiskLoc) (v : Option Node) → k.broken ≡ false → IsStep k.draft.image d.image k.node (put (bucket_in k.draft.image k.node) at v) → (q : DiskLoc) → bucket_of (after k d) q ≡ put (bucket_of k) at v q
-step_seen k d at v b s q = s.buckets q ∙ ap (λ (z : Option Node). cond (place_eq q at) v z) (sym (seen_bucket k q (bucket_in k.draft.image k.node q) b refl))
+-- one that asked for no place
+pub kept_same : (k : Kept) (d : Drafting) (m : Buckets) → IsKept k → k.broken ≡ false → IsStep k.draft.image d.image k.node 0 m → IsKept (after k d k.asked)
+kept_same k d m i b s = kept_on k d 0 k.asked m (omega arith) i b s
+
+pub step_seen : (k : Kept) (d : Drafting) (places asked : ℕ) (at : DiskLoc) (v : Option Node) → k.broken ≡ false → IsStep k.draft.image d.image k.node places (put (bucket_in k.draft.image k.node) at v) → (q : DiskLoc) → bucket_of (after k d asked) q ≡ put (bucket_of k) at v q
+step_seen k d places asked at v b s q = s.buckets q ∙ ap (λ (z : Option Node). cond (place_eq q at) v z) (sym (seen_bucket k q (bucket_in k.draft.image k.node q) b refl))
 
 -- a store that is made
-pub kept_new : (d : Drafting) (node : ℕ) → (free : List ℕ) × ((s : Shape) × Holds d.image free s node) → IsKept (record { draft = d; node = node; broken = false; start = d })
+pub kept_new : (d : Drafting) (node : ℕ) → (free : List ℕ) × ((s : Shape) × Holds d.image free s node) → IsKept (record { draft = d; node = node; broken = false; start = d; asked = 0 })
 kept_new d node h = λ _. record { free = h.0; s = h.1.0; held = h.1.1; goes = goes_back d.image node }
 
 -- no room, as the start has it
-pub full_on : (k : Kept) (d : Drafting) (b : Bool) → IsKept k → k.broken ≡ false → IsFull k.draft.image d.image k.node → is_full_of (record { draft = d; node = k.node; broken = b; start = k.start })
-full_on k d b i w f = λ free s h.
-    let r = i w in
-    let x = r.goes free s h in
-    let y = f free x.0 x.1.0 in
-    let same = x.1.1.names.names k.node h.is_node.used in
-    (y.0, (y.1.0, subst (λ (m : List ℕ). NoFit d.image y.0 free m 8208) same y.1.1))
+pub full_on : (k : Kept) (d : Drafting) (b : Bool) (asked : ℕ) → asked ≡ k.asked + 1 → IsKept k → k.broken ≡ false → IsFull k.draft.image d.image k.node → IsScarce k.draft.image k.node 1
+    → is_full_of (record { draft = d; node = k.node; broken = b; start = k.start; asked = asked })
+full_on k d b asked e i w f g = (
+  λ free s h.
+      let x = (i w).goes free s h in
+      let y = f free x.0 x.1.0 in
+      let same = x.1.1.names.names k.node h.is_node.used in
+      (y.0, (y.1.0, subst (λ (m : List ℕ). NoFit d.image y.0 free m 8208) same y.1.1)),
+  scarce,
+)
+  where
+    scarce : IsScarce k.start.image k.node asked
+    scarce free s h block =
+        let x = (i w).goes free s h in
+        let same = x.1.1.names.names k.node h.is_node.used in
+        let left = x.1.1.serves (8208 * 1) (omega arith) (shorter s (name_at k.start.image k.node) (8208 * asked) (8208 * k.asked + 8208 * 1) (omega (arith, e)) block) in
+        g free x.0 x.1.0 (subst (λ (m : List ℕ). HasBlock x.0 m (8208 * 1)) (sym same) left)

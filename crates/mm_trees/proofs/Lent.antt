@@ -12,7 +12,7 @@ use Rattle.mm_btree.specs.Lists.{ins}
 use Rattle.mm_btree.specs.Order.{item_lt, IsLacking}
 use Rattle.mm_btree.specs.Changes.{IsTree, IsChanged, root_after}
 use Rattle.mm_btree.specs.Removal.{without}
-use Rattle.mm_trees.specs.Buckets.{Goes, IsFull, bucket_in}
+use Rattle.mm_trees.specs.Buckets.{Goes, IsFull, IsScarce, bucket_in}
 use Rattle.mm_trees.specs.Kept.{Kept, IsKept, bucket_of, is_full_of, start_of}
 use Rattle.mm_trees.specs.Changes.{IsPutIn, IsTaken}
 use Rattle.mm_trees.proofs.Keeping.{is_whole}
@@ -33,19 +33,22 @@ whole_of lt k root h s t = is_whole k s.at (tree_there (bucket_of k) null _ h s 
 pub buckets_are : (k : Kept) (node : ℕ) → k.broken ≡ false → k.node ≡ node → bucket_of k ≡ bucket_in k.draft.image node
 buckets_are k node e f = λ i q. cond (e i) None (bucket_in k.draft.image (f i) q)
 
-module _ (d : Drafting) (node : ℕ) (k : Kept) (b : Bool) (stays : start_of k ≡ start_of (record { draft = d; node = node; broken = b; start = d })) where
+module _ (d : Drafting) (node : ℕ) (k : Kept) (b : Bool) (stays : start_of k ≡ start_of (record { draft = d; node = node; broken = b; start = d; asked = 0 })) where
   pub same_node : k.node ≡ node
   same_node = ap (λ (x : Drafting × ℕ). x.1) stays
 
   same_start : k.start ≡ d
   same_start = ap (λ (x : Drafting × ℕ). x.0) stays
 
-  pub goes_from : IsKept k → k.broken ≡ false → Goes d.image k.draft.image node
+  pub goes_from : IsKept k → k.broken ≡ false → Goes d.image k.draft.image node k.asked
   goes_from i e =
-      subst (λ (x : Drafting × ℕ). Goes x.0.image k.draft.image x.1) stays (i e).goes
+      subst (λ (x : Drafting × ℕ). Goes x.0.image k.draft.image x.1 k.asked) stays (i e).goes
 
   pub full_from : is_full_of k → IsFull d.image k.draft.image node
-  full_from f = subst (λ (x : Drafting × ℕ). IsFull x.0.image k.draft.image x.1) stays f
+  full_from f = subst (λ (x : Drafting × ℕ). IsFull x.0.image k.draft.image x.1) stays f.0
+
+  pub scarce_from : is_full_of k → IsScarce d.image node k.asked
+  scarce_from f = subst (λ (x : Drafting × ℕ). IsScarce x.0.image x.1 k.asked) stays f.1
 
   -- a pair was put in
   pub put_seen : (spec : Elements) (root : DiskLoc) (x : Item) (r : Option DiskLoc) → IsPutIn spec (bucket_in d.image node) (bucket_of k) root x r → IsPutIn spec (bucket_in d.image node) (bucket_in k.draft.image node) root x r

@@ -4,6 +4,7 @@ pub mod Showing
 pub mod Steps
 pub mod Calls
 pub mod Heights
+pub mod Levels
 pub mod Keeping
 pub mod RootLaws
 pub mod Finding

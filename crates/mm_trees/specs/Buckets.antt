@@ -1,5 +1,5 @@
 -- The buckets of a node: its records, the first 8192 bytes of whose rooms are the bytes of a bucket.
-use Rattle.std.specs.Prelude.{◌≡◌, ℕ, ◌+◌, ◌≤◌, true, false, if◌then◌else◌, List, length, Option, Some, None}
+use Rattle.std.specs.Prelude.{◌≡◌, ℕ, ◌+◌, ◌*◌, ◌≤◌, true, false, if◌then◌else◌, List, length, Option, Some, None}
 use Rattle.std.specs.Option.{option_map}
 use Rattle.mm_base.specs.Bytes.{part}
 use Rattle.mm_base.specs.declared.place.DiskLoc.{DiskLoc}
@@ -13,6 +13,7 @@ use Rattle.mm_records.specs.Asking.{NoFit}
 use Rattle.mm_records.specs.Shape.{Shape}
 use Rattle.mm_records.specs.Stands.{Stands, IsNode, ns_in}
 use Rattle.mm_records.specs.Map.{ofs_of, live_at, name_at}
+use Rattle.mm_records.specs.Serving.{HasBlock}
 use Rattle.mm_bucket.specs.Pairs.{Contents}
 use Rattle.mm_bucket.specs.Layout.{Spells, pairs_in}
 use Rattle.mm_bucket.specs.Rules.{children, AreAlike}
@@ -67,28 +68,38 @@ pub record Holds (image : Image) (free : List ℕ) (s : Shape) (node : ℕ) : Ty
   pub is_node : IsNode image free node
   pub rooms : AreRooms s (name_at image node)
 
--- What a change of a node's buckets leaves: the records of all other namespaces, the names, and all of details but what records, extents and deleted lists change.
-pub record Keeps (old new : Image) (s t : Shape) (node : ℕ) : Type 0 where
+-- The blocks of so many buckets are asked for: a deleted block of the namespace that has room for them and for a block besides leaves one that has room for that.
+abbrev pub Serves : Shape → Shape → List ℕ → ℕ → Type 0
+Serves s t name places = (k : ℕ) → 32 ≤ k → HasBlock s name (8208 * places + k) → HasBlock t name k
+
+-- What a change of a node's buckets leaves that asks for so many places: the records of all other namespaces, the names, all of details but what records, extents
+-- and deleted lists change, and deleted blocks for what is asked for later.
+pub record Keeps (old new : Image) (s t : Shape) (node places : ℕ) : Type 0 where
   pub others : (m : List ℕ) (q : Place) → is_name (name_at old node) m ≡ false → live_at t m q ≡ live_at s m q
   pub names : SameNames (ns_in old) (ns_in new)
   pub constants : (k : ℕ) → is_used (ns_in old) k ≡ true → constants_of (details_in (node_at (ns_in new) k)) ≡ constants_of (details_in (node_at (ns_in old) k))
+  pub serves : Serves s t (name_at old node) places
 
--- Wherever the old files held buckets, the new ones do.
-abbrev pub Goes : Image → Image → ℕ → Type 0
-Goes old new node = (free : List ℕ) (s : Shape) → Holds old free s node → (t : Shape) × (Holds new free t node × Keeps old new s t node)
+-- Wherever the old files held buckets, the new ones do, for which so many places were asked for.
+abbrev pub Goes : Image → Image → ℕ → ℕ → Type 0
+Goes old new node places = (free : List ℕ) (s : Shape) → Holds old free s node → (t : Shape) × (Holds new free t node × Keeps old new s t node places)
 
 -- The buckets of a node have become these, and all else has stayed.
-pub record IsStep (old new : Image) (node : ℕ) (map : Buckets) : Type 0 where
+pub record IsStep (old new : Image) (node places : ℕ) (map : Buckets) : Type 0 where
   pub buckets : (at : DiskLoc) → bucket_in new node at ≡ map at
-  pub goes : Goes old new node
+  pub goes : Goes old new node places
 
 -- the old files held buckets, and the new ones do, too
-pub record Reached (old new : Image) (node : ℕ) : Type 0 where
+pub record Reached (old new : Image) (node places : ℕ) : Type 0 where
   pub free : List ℕ
   pub s : Shape
   pub held : Holds old free s node
-  pub goes : Goes old new node
+  pub goes : Goes old new node places
 
 -- no block of the node has room for a bucket, and there is no room for an extent
 abbrev pub IsFull : Image → Image → ℕ → Type 0
 IsFull old new node = (free : List ℕ) (s : Shape) → Holds old free s node → (t : Shape) × (Stands new free t × NoFit new t free (name_at old node) 8208)
+
+-- no deleted block of the node has room for so many buckets
+abbrev pub IsScarce : Image → ℕ → ℕ → Type 0
+IsScarce old node places = (free : List ℕ) (s : Shape) → Holds old free s node → HasBlock s (name_at old node) (8208 * places) → ⊥

@@ -16,7 +16,7 @@ use Rattle.mm_btree.specs.Changes.{IsTree, least_at}
 use Rattle.mm_records.specs.Constants.{is_name, constants_of}
 use Rattle.mm_records.specs.Map.{live_at, name_at}
 use Rattle.mm_trees.specs.Roots.{root_in, with_root}
-use Rattle.mm_trees.specs.Buckets.{Holds, bucket_in}
+use Rattle.mm_trees.specs.Buckets.{Holds, Serves, bucket_in}
 
 -- a tree of this height at a root, whatever the order of its pairs
 pub record IsRooted (m : Buckets) (root : DiskLoc) (h : ℕ) (s : Sub) : Type 0 where
@@ -39,18 +39,19 @@ pub record HasIndex (image : Image) (node owner position : ℕ) (spec : Elements
   pub listed : s.pairs ≡ pairs
   pub whole : (at : DiskLoc) → has at s.places ≡ false → bucket_in image node at ≡ None
 
--- What a change of an index leaves: the records of all other namespaces, the names, and all of details but what records, extents and deleted lists
--- change and the root that the index's pair names.
-pub record LeavesOthers (old new : Image) (s t : Shape) (node owner position : ℕ) : Type 0 where
+-- What a change of an index leaves that asks for so many places: the records of all other namespaces, the names, all of details but what records, extents and
+-- deleted lists change and the root that the index's pair names, and deleted blocks for what is asked for later.
+pub record LeavesOthers (old new : Image) (s t : Shape) (node owner position places : ℕ) : Type 0 where
   pub others : (m : List ℕ) (q : Place) → is_name (name_at old node) m ≡ false → live_at t m q ≡ live_at s m q
   pub names : SameNames (ns_in old) (ns_in new)
   pub constants : (k : ℕ) → is_used (ns_in old) k ≡ true → k ≢ owner → constants_of (details_in (node_at (ns_in new) k)) ≡ constants_of (details_in (node_at (ns_in old) k))
   pub owner_constants : (root : DiskLoc) × (constants_of (details_in (node_at (ns_in new) owner)) ≡ constants_of (with_root (details_in (node_at (ns_in old) owner)) position root))
+  pub serves : Serves s t (name_at old node) places
 
--- wherever the old files held buckets for the node, the new ones do
-abbrev pub GoesBeside : Image → Image → ℕ → ℕ → ℕ → Type 0
-GoesBeside old new node owner position = (free : List ℕ) (s : Shape) → Holds old free s node → IsNode old free owner → pos position <ℤ (details_in (node_at (ns_in old) owner)).n_indexes
-    → (t : Shape) × (Holds new free t node × LeavesOthers old new s t node owner position)
+-- wherever the old files held buckets for the node, the new ones do, for which so many places were asked for
+abbrev pub GoesBeside : Image → Image → ℕ → ℕ → ℕ → ℕ → Type 0
+GoesBeside old new node owner position places = (free : List ℕ) (s : Shape) → Holds old free s node → IsNode old free owner → pos position <ℤ (details_in (node_at (ns_in old) owner)).n_indexes
+    → (t : Shape) × (Holds new free t node × LeavesOthers old new s t node owner position places)
 
 -- The details of the node `owner` count the position, and the index's node has no bucket yet.
 pub record IsUnmade (image : Image) (node owner position : ℕ) : Type 0 where

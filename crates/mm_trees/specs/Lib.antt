@@ -1,6 +1,7 @@
 pub mod Walked
 pub mod Buckets
 pub mod Kept
+pub mod Asked
 pub mod Roots
 pub mod Indexes
 pub mod Changes

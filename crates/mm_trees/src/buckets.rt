@@ -5,7 +5,8 @@ ghost use Rattle.mm_base.specs.Places.{null};
 ghost use Rattle.mm_bucket.specs.Rules.{children, AreAlike};
 ghost use Rattle.mm_btree.specs.Nodes.{node_of, put, with_parent};
 ghost use Rattle.mm_records.specs.Shape.{Shape};
-ghost use Rattle.mm_trees.specs.Buckets.{Holds, IsStep, IsFull, bucket_in};
+ghost use Rattle.mm_extents.specs.Changes.{DeclaresAtMost};
+ghost use Rattle.mm_trees.specs.Buckets.{Holds, IsStep, IsFull, IsScarce, bucket_in};
 
 use mm_base::{DiskLoc, NoMemory, put_place};
 use mm_bucket::{BUCKET_LEN, Bucket};
@@ -39,7 +40,8 @@ pub fn write_bucket(
 ) -> Result<(), NoMemory>
     requires there { (free : List ℕ) × ((s : Shape) × (Holds draft.old.image free s node × IsSome (bucket_in draft.old.image node at))) }
     requires alike { AreAlike (children bucket.now) }
-    ensures { OnOk result (IsStep draft.old.image draft.new.image node (put (bucket_in draft.old.image node) at (Some (node_of bucket.now)))) }
+    ensures step { OnOk result (IsStep draft.old.image draft.new.image node 0 (put (bucket_in draft.old.image node) at (Some (node_of bucket.now)))) }
+    ensures weight { DeclaresAtMost 8204 draft.old draft.new }
 {
     let records = RecordStore { node };
     records.write_inside(draft, at, 0, bucket.bytes())?;
@@ -49,7 +51,8 @@ pub fn write_bucket(
 /// Puts the bucket that is there under another parent: these 8 bytes alone are declared.
 pub fn write_parent(draft: &mut Draft, node: u32, at: DiskLoc, up: DiskLoc) -> Result<(), NoMemory>
     requires { (free : List ℕ) × ((s : Shape) × (Holds draft.old.image free s node × IsSome (bucket_in draft.old.image node at))) }
-    ensures { OnOk result (IsStep draft.old.image draft.new.image node (put (bucket_in draft.old.image node) at (with_parent up (bucket_in draft.old.image node at)))) }
+    ensures step { OnOk result (IsStep draft.old.image draft.new.image node 0 (put (bucket_in draft.old.image node) at (with_parent up (bucket_in draft.old.image node at)))) }
+    ensures weight { DeclaresAtMost 20 draft.old draft.new }
 {
     let mut bytes = [0; 8];
     put_place(&mut bytes, 0, up);
@@ -58,14 +61,16 @@ pub fn write_parent(draft: &mut Draft, node: u32, at: DiskLoc, up: DiskLoc) -> R
     Ok(())
 }
 
-/// Takes a place for a bucket and writes it there.
+/// Takes a place for a bucket and writes it there. `NoSpace` only where no deleted block has room for a bucket, and no extent more fits.
 pub fn add_bucket(draft: &mut Draft, node: u32, bucket: &Bucket) -> Result<DiskLoc, SpaceFault>
     requires holds { (free : List ℕ) × ((s : Shape) × Holds draft.old.image free s node) }
     requires alike { AreAlike (children bucket.now) }
     ensures free { IfOk result (λ at. bucket_in draft.old.image node at ≡ None) }
     ensures place { IfOk result (λ at. at ≡ null → ⊥) }
-    ensures step { IfOk result (λ at. IsStep draft.old.image draft.new.image node (put (bucket_in draft.old.image node) at (Some (node_of bucket.now)))) }
+    ensures step { IfOk result (λ at. IsStep draft.old.image draft.new.image node 1 (put (bucket_in draft.old.image node) at (Some (node_of bucket.now)))) }
     ensures full { IsErrOf result SpaceFault.NoSpace → IsFull draft.old.image draft.new.image node }
+    ensures scarce { IsErrOf result SpaceFault.NoSpace → IsScarce draft.old.image node 1 }
+    ensures weight { DeclaresAtMost 10704 draft.old draft.new }
 {
     let records = RecordStore { node };
     let at = records.alloc(draft, Request::Bucket, bucket.bytes())?;
@@ -75,7 +80,8 @@ pub fn add_bucket(draft: &mut Draft, node: u32, bucket: &Bucket) -> Result<DiskL
 /// Gives the place of a bucket back.
 pub fn free_bucket(draft: &mut Draft, node: u32, at: DiskLoc) -> Result<(), NoMemory>
     requires { (free : List ℕ) × ((s : Shape) × (Holds draft.old.image free s node × IsSome (bucket_in draft.old.image node at))) }
-    ensures { OnOk result (IsStep draft.old.image draft.new.image node (put (bucket_in draft.old.image node) at None)) }
+    ensures step { OnOk result (IsStep draft.old.image draft.new.image node 0 (put (bucket_in draft.old.image node) at None)) }
+    ensures weight { DeclaresAtMost 912 draft.old draft.new }
 {
     let records = RecordStore { node };
     records.free(draft, at)?;

@@ -34,7 +34,7 @@ pub fn put_pair(
     requires holds { (free : List ℕ) × ((s : Shape) × Holds draft.old.image free s node) }
     requires tree { (h : ℕ) × ((s : Sub) × (IsTree (item_lt spec.now) (bucket_in draft.old.image node) root h s × IsLacking spec.now (record { key = key.now; rec = rec }) s.pairs)) }
     ensures ok { IfOk result (IsPutIn spec.now (bucket_in draft.old.image node) (bucket_in draft.new.image node) root (record { key = key.now; rec = rec })) }
-    ensures goes { OnOk result (Goes draft.old.image draft.new.image node) }
+    ensures goes { OnOk result ((places : ℕ) × Goes draft.old.image draft.new.image node places) }
     ensures alone { OnOk result (IsntTwice spec.now (bucket_in draft.old.image node) root key.now unique) }
     ensures duplicate { IsErrOf result TreeFault.Duplicate → IsTwice spec.now (bucket_in draft.old.image node) root key.now unique }
     ensures kept { IsErrOf result TreeFault.Duplicate → draft.new ≡ draft.old }
@@ -62,7 +62,7 @@ pub fn take_pair(
     requires holds { (free : List ℕ) × ((s : Shape) × Holds draft.old.image free s node) }
     requires tree { (h : ℕ) × ((s : Sub) × IsTree (item_lt spec.now) (bucket_in draft.old.image node) root h s) }
     ensures out { IfOk result (λ r. (after : Place) → r ≡ Some after → IsTaken spec.now (bucket_in draft.old.image node) (bucket_in draft.new.image node) root (record { key = key.now; rec = rec }) after) }
-    ensures goes { IfOk result (λ r. (after : Place) → r ≡ Some after → Goes draft.old.image draft.new.image node) }
+    ensures goes { IfOk result (λ r. (after : Place) → r ≡ Some after → (places : ℕ) × Goes draft.old.image draft.new.image node places) }
     ensures there { IfOk result (IsThere spec.now (bucket_in draft.old.image node) root (record { key = key.now; rec = rec })) }
     ensures kept { IfOk result (λ r. r ≡ None → draft.new ≡ draft.old) }
     ensures full { IsErrOf result TreeFault.NoSpace → IsFull draft.old.image draft.new.image node }

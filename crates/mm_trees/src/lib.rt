@@ -13,6 +13,7 @@
 //! store for its time. Not said here: how many bytes a call declares, and how many buckets it takes.
 #![tactic(auto)]
 
+mod asked;
 mod buckets;
 mod changes;
 mod height;

@@ -1,12 +1,12 @@
 //! A draft as a store of the buckets of a node.
 
-ghost use Rattle.std.specs.Prelude.{◌≡◌, ℕ, List, true, false, IsSome, OnOk};
+ghost use Rattle.std.specs.Prelude.{◌≡◌, ℕ, List, false};
 ghost use Rattle.mm_records.specs.Shape.{Shape};
 ghost use Rattle.mm_views.specs.State.{Drafting};
-ghost use Rattle.mm_btree.specs.Nodes.{node_of};
 ghost use Rattle.mm_trees.specs.Buckets.{Holds};
 ghost use Rattle.mm_trees.specs.Kept.{IsKept, bucket_of, is_full_of, start_of};
 
+use crate::asked::Asked;
 use crate::buckets::{add_bucket, bucket_at, free_bucket, write_bucket, write_parent};
 use mm_base::{DiskLoc, NoMemory};
 use mm_btree::{NodeStore, TreeFault};
@@ -16,7 +16,7 @@ use mm_views::Draft;
 use std::marker::Model;
 use std::snapshot::Snapshot;
 
-/// The buckets of a node in a draft that may be changed. Once a call gives up it has none.
+/// The buckets of a node in a draft that may be changed, and how many places were asked for. Once a call gives up it has none.
 #[derive(Drop)]
 pub struct Store {
     draft: Draft,
@@ -25,25 +25,27 @@ pub struct Store {
     broken: bool,
     // the draft as it was
     start: Snapshot<Draft>,
+    asked: Asked,
 }
 
 impl Model for Store {
+    ghost use Rattle.mm_trees.specs.Asked.{places_asked};
     ghost use Rattle.mm_trees.specs.Kept.{Kept, kept_code, IsKept};
 
     ghost Value = { Kept };
 
     ghost coded = { kept_code };
 
-    ghost view = { λ s. record { draft = s.draft; node = s.node; broken = s.broken; start = s.start.value } };
+    ghost view = { λ s. record { draft = s.draft; node = s.node; broken = s.broken; start = s.start.value; asked = places_asked s.asked } };
 
-    ghost invariant = { λ s. IsKept (record { draft = s.draft; node = s.node; broken = s.broken; start = s.start.value }) };
+    ghost invariant = { λ s. IsKept (record { draft = s.draft; node = s.node; broken = s.broken; start = s.start.value; asked = places_asked s.asked }) };
 }
 
 impl Store {
     /// The buckets of a node, each of whose records is one.
     pub fn new(draft: Draft, node: u32) -> Store
         requires { (free : List ℕ) × ((s : Shape) × Holds draft.image free s node) }
-        ensures { result ≡ record { draft = draft; node = node; broken = false; start = draft } }
+        ensures { result ≡ record { draft = draft; node = node; broken = false; start = draft; asked = 0 } }
     {
         let start = Snapshot::of(&draft);
         Store {
@@ -51,6 +53,7 @@ impl Store {
             node,
             broken: false,
             start,
+            asked: Asked::none(),
         }
     }
 
@@ -64,6 +67,7 @@ impl Store {
             node: _,
             broken: _,
             start: _,
+            asked: _,
         } = self;
         draft
     }
@@ -97,6 +101,7 @@ impl NodeStore for Store {
     }
 
     fn add(&mut self, bucket: &Bucket) -> Result<DiskLoc, TreeFault> {
+        self.asked = self.asked.and_one();
         if self.broken {
             return Err(TreeFault::NoMemory);
         }

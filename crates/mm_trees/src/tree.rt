@@ -1,15 +1,16 @@
 //! The trees of indexes.
 
-ghost use Rattle.std.specs.Prelude.{◌≡◌, ◌↔◌, ◌++◌, [], List, true, false, map, IsTrue, IsSome, IfOk, OnOk, IsErrOf};
+ghost use Rattle.std.specs.Prelude.{◌≡◌, ℕ, ◌↔◌, ◌++◌, [], List, true, false, map, IsTrue, IsSome, IfOk, OnOk, IsErrOf};
 ghost use Rattle.mm_bson.specs.Spelling.{spelling};
 ghost use Rattle.mm_bson.specs.Walk.{document_in};
+ghost use Rattle.mm_extents.specs.Changes.{DeclaresAtMost};
 ghost use Rattle.mm_bucket.specs.Pairs.{IsKey};
 ghost use Rattle.mm_btree.specs.Nodes.{Item};
 ghost use Rattle.mm_btree.specs.Lists.{ins};
 ghost use Rattle.mm_btree.specs.Order.{item_lt, IsLacking, first_with};
 ghost use Rattle.mm_btree.specs.Listed.{rec_of, between};
 ghost use Rattle.mm_btree.specs.Removal.{without};
-ghost use Rattle.mm_trees.specs.Buckets.{IsFull};
+ghost use Rattle.mm_trees.specs.Buckets.{IsFull, IsScarce};
 ghost use Rattle.mm_trees.specs.Roots.{root_in};
 ghost use Rattle.mm_trees.specs.Indexes.{HasIndex, IsUnmade, GoesBeside};
 
@@ -98,8 +99,10 @@ impl Tree {
         requires { IsUnmade draft.old.image self.now.store.node self.now.owner self.now.position }
         ensures ok { OnOk result (HasIndex draft.new.image self.now.store.node self.now.owner self.now.position self.now.spec []) }
         ensures root { IfOk result (λ root. root_in draft.new.image self.now.owner self.now.position ≡ root) }
-        ensures beside { OnOk result (GoesBeside draft.old.image draft.new.image self.now.store.node self.now.owner self.now.position) }
+        ensures beside { OnOk result (GoesBeside draft.old.image draft.new.image self.now.store.node self.now.owner self.now.position 1) }
         ensures full { IsErrOf result SpaceFault.NoSpace → IsFull draft.old.image draft.new.image self.now.store.node }
+        ensures scarce { IsErrOf result SpaceFault.NoSpace → IsScarce draft.old.image self.now.store.node 1 }
+        ensures weight { DeclaresAtMost 11212 draft.old draft.new }
     {
         let root = add_bucket(draft, self.store.node, &Bucket::new(DiskLoc::NULL))?;
         put_root(draft, self.owner, self.position, root)?;
@@ -123,7 +126,7 @@ impl Tree {
         ensures ok { OnOk result ((pairs : List Item) → HasIndex draft.old.image self.now.store.node self.now.owner self.now.position self.now.spec pairs
             → IsLacking self.now.spec (record { key = spelling key.now; rec = rec }) pairs
             → HasIndex draft.new.image self.now.store.node self.now.owner self.now.position self.now.spec (ins (item_lt self.now.spec) (record { key = spelling key.now; rec = rec }) pairs)) }
-        ensures beside { OnOk result (GoesBeside draft.old.image draft.new.image self.now.store.node self.now.owner self.now.position) }
+        ensures beside { OnOk result ((places : ℕ) × GoesBeside draft.old.image draft.new.image self.now.store.node self.now.owner self.now.position places) }
 
         // An equal key is refused where the index is unique, and only that.
         ensures alone { OnOk result ((pairs : List Item) → HasIndex draft.old.image self.now.store.node self.now.owner self.now.position self.now.spec pairs
@@ -166,7 +169,7 @@ impl Tree {
         requires index { (pairs : List Item) × HasIndex draft.old.image self.now.store.node self.now.owner self.now.position self.now.spec pairs }
         ensures out { IfOk result (λ there. there ≡ true → (pairs : List Item) → HasIndex draft.old.image self.now.store.node self.now.owner self.now.position self.now.spec pairs
             → HasIndex draft.new.image self.now.store.node self.now.owner self.now.position self.now.spec (without self.now.spec (record { key = spelling key.now; rec = rec }) pairs)) }
-        ensures beside { IfOk result (λ there. there ≡ true → GoesBeside draft.old.image draft.new.image self.now.store.node self.now.owner self.now.position) }
+        ensures beside { IfOk result (λ there. there ≡ true → (places : ℕ) × GoesBeside draft.old.image draft.new.image self.now.store.node self.now.owner self.now.position places) }
         ensures there { IfOk result (λ there. (pairs : List Item) → HasIndex draft.old.image self.now.store.node self.now.owner self.now.position self.now.spec pairs
             → (there ≡ false) ↔ IsLacking self.now.spec (record { key = spelling key.now; rec = rec }) pairs) }
         ensures kept { IfOk result (λ there. there ≡ false → draft.new ≡ draft.old) }

@@ -1,9 +1,11 @@
-use Rattle.std.proofs.Common.{◌≡◌, ◌∙◌, Some, Result, Ok, Err, refl, sym, ap, arith}
+use Rattle.std.proofs.Common.{◌≡◌, ◌*◌, ◌∙◌, Some, Result, Ok, Err, refl, sym, ap, arith}
 use Rattle.std.specs.Prelude.{IsErrAnd}
 use Rattle.mm_base.specs.declared.place.DiskLoc.{DiskLoc}
 use Rattle.mm_extents.specs.declared.fault.SpaceFault.{SpaceFault}
 use Rattle.mm_extents.specs.declared.fault.SpaceFault.TheVariants.{NoSpace}
 use Rattle.mm_btree.specs.Nodes.{node_of}
+use Rattle.mm_records.proofs.Serving.{no_block}
+use Rattle.mm_records.specs.Map.{name_at}
 use Rattle.mm_trees.proofs.Calls.{added_node, added_change, was_free, new_not_null, step_of}
 use Rattle.mm_trees.proofs.buckets.add_bucket.Goals as goal
 
@@ -33,7 +35,7 @@ returns-clause-step c =
     let old = c.args.draft.now.image in
     let new = c.alloc.new.draft.image in
     let e = c.in_ok-at.ensures in
-    step_of old new c.args.node c.in_ok-at.at (Some (node_of c.args.bucket.now)) r.0 r.1.0 r.1.1 (λ free s h.
+    step_of old new c.args.node 1 c.in_ok-at.at (Some (node_of c.args.bucket.now)) r.0 r.1.0 r.1.1 (λ free s h.
     let x = e.ok free s 8208 h.stands h.is_node refl in
     record {
       t = x.0;
@@ -49,3 +51,8 @@ same_fault (Err y) f and e = let same : y ≡ NoSpace = cc in sym and ∙ same
 
 pub returns-in_err-at-clause-full : goal.returns-in_err-at-clause-full
 returns-in_err-at-clause-full c = λ e free s h. (s, c.in_err-at.ensures.left (ap Err (same_fault c.from_residual.result c.in_err-at.field-0.0 c.from_residual.ensures.1 e)) free s 8208 h.stands h.is_node refl)
+
+pub returns-in_err-at-clause-scarce : goal.returns-in_err-at-clause-scarce
+returns-in_err-at-clause-scarce c = λ e free s h b.
+    let x = c.in_err-at.ensures.full (ap Err (same_fault c.from_residual.result c.in_err-at.field-0.0 c.from_residual.ensures.1 e)) free s 8208 h.stands h.is_node refl in
+    no_block s (name_at c.args.draft.now.image c.args.node) 8208 (8208 * 1) x.no_block (omega arith) b

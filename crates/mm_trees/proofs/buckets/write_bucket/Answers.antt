@@ -15,8 +15,8 @@ write_inside-requires c =
     let le = fits image r.0 r.1.0 c.args.node c.args.at r.1.1.0 f c.bytes.result.now c.args.bucket.now 0 (omega (arith, l)) (whole_spelled image r.0 r.1.0 c.args.node c.args.at r.1.1.0 f c.bytes.result.now c.args.bucket.now sp) c.requires.alike in
     (r.0, (r.1.0, (f.p, (f.room, (f.has_record, le)))))
 
-pub returns : goal.returns
-returns c =
+pub returns-clause-step : goal.returns-clause-step
+returns-clause-step c =
     let r = c.requires.there in
     let old = c.args.draft.now.image in
     let node = c.args.node in
@@ -25,7 +25,7 @@ returns c =
     let sp = c.bytes.ensures in
     let l = sp.laid.whole in
     let e = c.in_ok-write_inside.ensures in
-    step_of old c.write_inside.new.draft.image node c.args.at (Some (node_of b)) r.0 r.1.0 r.1.1.0 (λ free s h.
+    step_of old c.write_inside.new.draft.image node 0 c.args.at (Some (node_of b)) r.0 r.1.0 r.1.1.0 (λ free s h.
     let f = found old free s node c.args.at h r.1.1.1 in
     let whole = whole_spelled old free s node c.args.at h f bytes b sp in
     let le = fits old free s node c.args.at h f bytes b 0 (omega (arith, l)) whole c.requires.alike in

@@ -29,8 +29,8 @@ write_inside-requires c =
     let sp = subst (λ (x : List ℕ). Spells (overwritten 0 x (part 0 8192 f.room)) (record room.b { parent = up })) (sym e) (parent_spelled image r.0 r.1.0 c.args.node c.args.at r.1.1.0 f up) in
     (r.0, (r.1.0, (f.p, (f.room, (f.has_record, fits image r.0 r.1.0 c.args.node c.args.at r.1.1.0 f bytes (record room.b { parent = up }) 8184 (long up bytes e) sp room.alike)))))
 
-pub returns : goal.returns
-returns c =
+pub returns-clause-step : goal.returns-clause-step
+returns-clause-step c =
     let r = c.requires in
     let old = c.args.draft.now.image in
     let new = c.write_inside.new.draft.image in
@@ -39,7 +39,7 @@ returns c =
     let bytes = c.put_place.new.bytes in
     let e = written_is up bytes c.put_place.ensures in
     let w = c.in_ok-write_inside.ensures in
-    step_of old new node c.args.at (with_parent up (bucket_in old node c.args.at)) r.0 r.1.0 r.1.1.0 (λ free s h.
+    step_of old new node 0 c.args.at (with_parent up (bucket_in old node c.args.at)) r.0 r.1.0 r.1.1.0 (λ free s h.
     let f = found old free s node c.args.at h r.1.1.1 in
     let room = is_room old free s node c.args.at h f in
     let b = record room.b { parent = up } in

@@ -22,7 +22,7 @@ put_in-result-requires-clause-tree c =
     let spec = c.args.spec.now in
     let root = c.args.root in
     let x : Item = record { key = c.args.key.now; rec = c.args.rec } in
-    let made : c.new-store.result ≡ record { draft = d; node = node; broken = false; start = d } = c.new-store.ensures ∙ ap (λ (y : Drafting). record { draft = y; node = node; broken = false; start = y }) c.replace-lent.ensures.value in
+    let made : c.new-store.result ≡ record { draft = d; node = node; broken = false; start = d; asked = 0 } = c.new-store.ensures ∙ ap (λ (y : Drafting). record { draft = y; node = node; broken = false; start = y; asked = 0 }) c.replace-lent.ensures.value in
     let same : bucket_of c.new-store.result ≡ bucket_in d.image node = ap bucket_of made in
     subst (λ (m : Buckets). (h : ℕ) × ((s : Sub) × (IsTree (item_lt spec) m root h s × IsLacking spec x s.pairs))) (sym same) c.requires.tree
 
@@ -33,10 +33,10 @@ returns-clause-ok c =
     let spec = c.args.spec.now in
     let root = c.args.root in
     let x : Item = record { key = c.args.key.now; rec = c.args.rec } in
-    let made : c.new-store.result ≡ record { draft = d; node = node; broken = false; start = d } = c.new-store.ensures ∙ ap (λ (y : Drafting). record { draft = y; node = node; broken = false; start = y }) c.replace-lent.ensures.value in
+    let made : c.new-store.result ≡ record { draft = d; node = node; broken = false; start = d; asked = 0 } = c.new-store.ensures ∙ ap (λ (y : Drafting). record { draft = y; node = node; broken = false; start = y; asked = 0 }) c.replace-lent.ensures.value in
     let same : bucket_of c.new-store.result ≡ bucket_in d.image node = ap bucket_of made in
     let k = c.put_in-result.new.store in
-    let stays : start_of k ≡ start_of (record { draft = d; node = node; broken = false; start = d }) = c.put_in-result.ensures.stays ∙ ap start_of made in
+    let stays : start_of k ≡ start_of (record { draft = d; node = node; broken = false; start = d; asked = 0 }) = c.put_in-result.ensures.stays ∙ ap start_of made in
     IfOk-weaker c.put_in-result.result _ _ (λ r f.
     subst (λ (n : Drafting). IsPutIn spec (bucket_in d.image node) (bucket_in n.image node) root x r) (sym c.into_draft.ensures.draft)
     (put_seen d node k false stays spec root x r (subst (λ (m : Buckets). IsPutIn spec m (bucket_of k) root x r) same f))) c.put_in-result.ensures.ok
@@ -48,14 +48,14 @@ returns-clause-goes c =
     let spec = c.args.spec.now in
     let root = c.args.root in
     let x : Item = record { key = c.args.key.now; rec = c.args.rec } in
-    let made : c.new-store.result ≡ record { draft = d; node = node; broken = false; start = d } = c.new-store.ensures ∙ ap (λ (y : Drafting). record { draft = y; node = node; broken = false; start = y }) c.replace-lent.ensures.value in
+    let made : c.new-store.result ≡ record { draft = d; node = node; broken = false; start = d; asked = 0 } = c.new-store.ensures ∙ ap (λ (y : Drafting). record { draft = y; node = node; broken = false; start = y; asked = 0 }) c.replace-lent.ensures.value in
     let same : bucket_of c.new-store.result ≡ bucket_in d.image node = ap bucket_of made in
     let k = c.put_in-result.new.store in
-    let stays : start_of k ≡ start_of (record { draft = d; node = node; broken = false; start = d }) = c.put_in-result.ensures.stays ∙ ap start_of made in
+    let stays : start_of k ≡ start_of (record { draft = d; node = node; broken = false; start = d; asked = 0 }) = c.put_in-result.ensures.stays ∙ ap start_of made in
     let t = c.requires.tree in
     on_of c.put_in-result.result _ _ (λ r f.
     let whole = put_whole d node k false stays spec root x r t.0 t.1.0 t.1.1.0 t.1.1.1 (subst (λ (m : Buckets). IsPutIn spec m (bucket_of k) root x r) same f) in
-    subst (λ (n : Drafting). Goes d.image n.image node) (sym c.into_draft.ensures.draft) (goes_from d node k false stays c.into_draft.ensures.kept whole)) c.put_in-result.ensures.ok
+    (k.asked, subst (λ (n : Drafting). Goes d.image n.image node k.asked) (sym c.into_draft.ensures.draft) (goes_from d node k false stays c.into_draft.ensures.kept whole))) c.put_in-result.ensures.ok
 
 pub returns-clause-alone : goal.returns-clause-alone
 returns-clause-alone c =
@@ -64,7 +64,7 @@ returns-clause-alone c =
     let spec = c.args.spec.now in
     let root = c.args.root in
     let x : Item = record { key = c.args.key.now; rec = c.args.rec } in
-    let made : c.new-store.result ≡ record { draft = d; node = node; broken = false; start = d } = c.new-store.ensures ∙ ap (λ (y : Drafting). record { draft = y; node = node; broken = false; start = y }) c.replace-lent.ensures.value in
+    let made : c.new-store.result ≡ record { draft = d; node = node; broken = false; start = d; asked = 0 } = c.new-store.ensures ∙ ap (λ (y : Drafting). record { draft = y; node = node; broken = false; start = y; asked = 0 }) c.replace-lent.ensures.value in
     let same : bucket_of c.new-store.result ≡ bucket_in d.image node = ap bucket_of made in
     on_ok_weaker c.put_in-result.result (λ f. subst (λ (m : Buckets). IsntTwice spec m root c.args.key.now c.args.unique) same f) c.put_in-result.ensures.alone
 
@@ -75,7 +75,7 @@ returns-clause-duplicate c = λ e.
     let spec = c.args.spec.now in
     let root = c.args.root in
     let x : Item = record { key = c.args.key.now; rec = c.args.rec } in
-    let made : c.new-store.result ≡ record { draft = d; node = node; broken = false; start = d } = c.new-store.ensures ∙ ap (λ (y : Drafting). record { draft = y; node = node; broken = false; start = y }) c.replace-lent.ensures.value in
+    let made : c.new-store.result ≡ record { draft = d; node = node; broken = false; start = d; asked = 0 } = c.new-store.ensures ∙ ap (λ (y : Drafting). record { draft = y; node = node; broken = false; start = y; asked = 0 }) c.replace-lent.ensures.value in
     let same : bucket_of c.new-store.result ≡ bucket_in d.image node = ap bucket_of made in
     subst (λ (m : Buckets). IsTwice spec m root c.args.key.now c.args.unique) same (c.put_in-result.ensures.duplicate e)
 
@@ -86,7 +86,7 @@ returns-clause-kept c = λ e.
     let spec = c.args.spec.now in
     let root = c.args.root in
     let x : Item = record { key = c.args.key.now; rec = c.args.rec } in
-    let made : c.new-store.result ≡ record { draft = d; node = node; broken = false; start = d } = c.new-store.ensures ∙ ap (λ (y : Drafting). record { draft = y; node = node; broken = false; start = y }) c.replace-lent.ensures.value in
+    let made : c.new-store.result ≡ record { draft = d; node = node; broken = false; start = d; asked = 0 } = c.new-store.ensures ∙ ap (λ (y : Drafting). record { draft = y; node = node; broken = false; start = y; asked = 0 }) c.replace-lent.ensures.value in
     let same : bucket_of c.new-store.result ≡ bucket_in d.image node = ap bucket_of made in
     c.into_draft.ensures.draft ∙ ap (λ (y : Kept). y.draft) (c.put_in-result.ensures.kept e ∙ made)
 
@@ -97,8 +97,8 @@ returns-clause-full c = λ e.
     let spec = c.args.spec.now in
     let root = c.args.root in
     let x : Item = record { key = c.args.key.now; rec = c.args.rec } in
-    let made : c.new-store.result ≡ record { draft = d; node = node; broken = false; start = d } = c.new-store.ensures ∙ ap (λ (y : Drafting). record { draft = y; node = node; broken = false; start = y }) c.replace-lent.ensures.value in
+    let made : c.new-store.result ≡ record { draft = d; node = node; broken = false; start = d; asked = 0 } = c.new-store.ensures ∙ ap (λ (y : Drafting). record { draft = y; node = node; broken = false; start = y; asked = 0 }) c.replace-lent.ensures.value in
     let same : bucket_of c.new-store.result ≡ bucket_in d.image node = ap bucket_of made in
     let k = c.put_in-result.new.store in
-    let stays : start_of k ≡ start_of (record { draft = d; node = node; broken = false; start = d }) = c.put_in-result.ensures.stays ∙ ap start_of made in
+    let stays : start_of k ≡ start_of (record { draft = d; node = node; broken = false; start = d; asked = 0 }) = c.put_in-result.ensures.stays ∙ ap start_of made in
     subst (λ (n : Drafting). IsFull d.image n.image node) (sym c.into_draft.ensures.draft) (full_from d node k false stays (c.put_in-result.ensures.full e))

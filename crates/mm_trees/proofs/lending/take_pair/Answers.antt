@@ -22,7 +22,7 @@ take_out-result-requires-clause-tree c =
     let spec = c.args.spec.now in
     let root = c.args.root in
     let x : Item = record { key = c.args.key.now; rec = c.args.rec } in
-    let made : c.new-store.result ≡ record { draft = d; node = node; broken = false; start = d } = c.new-store.ensures ∙ ap (λ (y : Drafting). record { draft = y; node = node; broken = false; start = y }) c.replace-lent.ensures.value in
+    let made : c.new-store.result ≡ record { draft = d; node = node; broken = false; start = d; asked = 0 } = c.new-store.ensures ∙ ap (λ (y : Drafting). record { draft = y; node = node; broken = false; start = y; asked = 0 }) c.replace-lent.ensures.value in
     let same : bucket_of c.new-store.result ≡ bucket_in d.image node = ap bucket_of made in
     subst (λ (m : Buckets). (h : ℕ) × ((s : Sub) × IsTree (item_lt spec) m root h s)) (sym same) c.requires.tree
 
@@ -33,10 +33,10 @@ returns-clause-out c =
     let spec = c.args.spec.now in
     let root = c.args.root in
     let x : Item = record { key = c.args.key.now; rec = c.args.rec } in
-    let made : c.new-store.result ≡ record { draft = d; node = node; broken = false; start = d } = c.new-store.ensures ∙ ap (λ (y : Drafting). record { draft = y; node = node; broken = false; start = y }) c.replace-lent.ensures.value in
+    let made : c.new-store.result ≡ record { draft = d; node = node; broken = false; start = d; asked = 0 } = c.new-store.ensures ∙ ap (λ (y : Drafting). record { draft = y; node = node; broken = false; start = y; asked = 0 }) c.replace-lent.ensures.value in
     let same : bucket_of c.new-store.result ≡ bucket_in d.image node = ap bucket_of made in
     let k = c.take_out-result.new.store in
-    let stays : start_of k ≡ start_of (record { draft = d; node = node; broken = false; start = d }) = c.take_out-result.ensures.stays ∙ ap start_of made in
+    let stays : start_of k ≡ start_of (record { draft = d; node = node; broken = false; start = d; asked = 0 }) = c.take_out-result.ensures.stays ∙ ap start_of made in
     IfOk-weaker c.take_out-result.result _ _ (λ r f after e.
     subst (λ (n : Drafting). IsTaken spec (bucket_in d.image node) (bucket_in n.image node) root x after) (sym c.into_draft.ensures.draft)
     (taken_seen d node k false stays spec root after x (subst (λ (m : Buckets). IsTaken spec m (bucket_of k) root x after) same (f after e)))) c.take_out-result.ensures.out
@@ -48,14 +48,14 @@ returns-clause-goes c =
     let spec = c.args.spec.now in
     let root = c.args.root in
     let x : Item = record { key = c.args.key.now; rec = c.args.rec } in
-    let made : c.new-store.result ≡ record { draft = d; node = node; broken = false; start = d } = c.new-store.ensures ∙ ap (λ (y : Drafting). record { draft = y; node = node; broken = false; start = y }) c.replace-lent.ensures.value in
+    let made : c.new-store.result ≡ record { draft = d; node = node; broken = false; start = d; asked = 0 } = c.new-store.ensures ∙ ap (λ (y : Drafting). record { draft = y; node = node; broken = false; start = y; asked = 0 }) c.replace-lent.ensures.value in
     let same : bucket_of c.new-store.result ≡ bucket_in d.image node = ap bucket_of made in
     let k = c.take_out-result.new.store in
-    let stays : start_of k ≡ start_of (record { draft = d; node = node; broken = false; start = d }) = c.take_out-result.ensures.stays ∙ ap start_of made in
+    let stays : start_of k ≡ start_of (record { draft = d; node = node; broken = false; start = d; asked = 0 }) = c.take_out-result.ensures.stays ∙ ap start_of made in
     let t = c.requires.tree in
     IfOk-weaker c.take_out-result.result _ _ (λ r f after e.
     let whole = taken_whole d node k false stays spec root after x t.0 t.1.0 t.1.1 (subst (λ (m : Buckets). IsTaken spec m (bucket_of k) root x after) same (f after e)) in
-    subst (λ (n : Drafting). Goes d.image n.image node) (sym c.into_draft.ensures.draft) (goes_from d node k false stays c.into_draft.ensures.kept whole)) c.take_out-result.ensures.out
+    (k.asked, subst (λ (n : Drafting). Goes d.image n.image node k.asked) (sym c.into_draft.ensures.draft) (goes_from d node k false stays c.into_draft.ensures.kept whole))) c.take_out-result.ensures.out
 
 pub returns-clause-there : goal.returns-clause-there
 returns-clause-there c =
@@ -64,7 +64,7 @@ returns-clause-there c =
     let spec = c.args.spec.now in
     let root = c.args.root in
     let x : Item = record { key = c.args.key.now; rec = c.args.rec } in
-    let made : c.new-store.result ≡ record { draft = d; node = node; broken = false; start = d } = c.new-store.ensures ∙ ap (λ (y : Drafting). record { draft = y; node = node; broken = false; start = y }) c.replace-lent.ensures.value in
+    let made : c.new-store.result ≡ record { draft = d; node = node; broken = false; start = d; asked = 0 } = c.new-store.ensures ∙ ap (λ (y : Drafting). record { draft = y; node = node; broken = false; start = y; asked = 0 }) c.replace-lent.ensures.value in
     let same : bucket_of c.new-store.result ≡ bucket_in d.image node = ap bucket_of made in
     IfOk-weaker c.take_out-result.result _ _ (λ r f. subst (λ (m : Buckets). IsThere spec m root x r) same f) c.take_out-result.ensures.there
 
@@ -75,7 +75,7 @@ returns-clause-kept c =
     let spec = c.args.spec.now in
     let root = c.args.root in
     let x : Item = record { key = c.args.key.now; rec = c.args.rec } in
-    let made : c.new-store.result ≡ record { draft = d; node = node; broken = false; start = d } = c.new-store.ensures ∙ ap (λ (y : Drafting). record { draft = y; node = node; broken = false; start = y }) c.replace-lent.ensures.value in
+    let made : c.new-store.result ≡ record { draft = d; node = node; broken = false; start = d; asked = 0 } = c.new-store.ensures ∙ ap (λ (y : Drafting). record { draft = y; node = node; broken = false; start = y; asked = 0 }) c.replace-lent.ensures.value in
     let same : bucket_of c.new-store.result ≡ bucket_in d.image node = ap bucket_of made in
     IfOk-weaker c.take_out-result.result _ _ (λ r f e. c.into_draft.ensures.draft ∙ ap (λ (y : Kept). y.draft) (f e ∙ made)) c.take_out-result.ensures.kept
 
@@ -86,8 +86,8 @@ returns-clause-full c = λ e.
     let spec = c.args.spec.now in
     let root = c.args.root in
     let x : Item = record { key = c.args.key.now; rec = c.args.rec } in
-    let made : c.new-store.result ≡ record { draft = d; node = node; broken = false; start = d } = c.new-store.ensures ∙ ap (λ (y : Drafting). record { draft = y; node = node; broken = false; start = y }) c.replace-lent.ensures.value in
+    let made : c.new-store.result ≡ record { draft = d; node = node; broken = false; start = d; asked = 0 } = c.new-store.ensures ∙ ap (λ (y : Drafting). record { draft = y; node = node; broken = false; start = y; asked = 0 }) c.replace-lent.ensures.value in
     let same : bucket_of c.new-store.result ≡ bucket_in d.image node = ap bucket_of made in
     let k = c.take_out-result.new.store in
-    let stays : start_of k ≡ start_of (record { draft = d; node = node; broken = false; start = d }) = c.take_out-result.ensures.stays ∙ ap start_of made in
+    let stays : start_of k ≡ start_of (record { draft = d; node = node; broken = false; start = d; asked = 0 }) = c.take_out-result.ensures.stays ∙ ap start_of made in
     subst (λ (n : Drafting). IsFull d.image n.image node) (sym c.into_draft.ensures.draft) (full_from d node k false stays (c.take_out-result.ensures.full e))

@@ -22,8 +22,8 @@ named-counts-requires c =
     let i = c.requires.inside in
     omega (arith, l, m, i)
 
-pub returns : goal.returns
-returns c =
+pub returns-clause-put : goal.returns-clause-put
+returns-clause-put c =
     let old = c.args.draft.now in
     let new = c.put_details.new.draft in
     let e = c.in_ok-put_details.ensures in

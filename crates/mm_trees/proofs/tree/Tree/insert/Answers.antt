@@ -44,10 +44,10 @@ put_pair-requires-clause-tree c =
     (i.height, (i.s, (tree_at old node owner position spec root is x pairs i, lacking_at old node owner position spec root is x pairs i (subst (λ (k : List ℕ). IsLacking spec (record { key = k; rec = c.args.rec }) pairs) (sym spelled) l))))
 
 pub put_root-requires-clause-table : goal.put_root-requires-clause-table
-put_root-requires-clause-table c = let i = c.requires.index.1.0 in table_after c.args.draft.now.image c.put_pair.new.draft.image c.args.self.now.store.node i.free i.shape i.holds c.in_ok-put_pair.ensures.goes
+put_root-requires-clause-table c = let i = c.requires.index.1.0 in table_after c.args.draft.now.image c.put_pair.new.draft.image c.args.self.now.store.node c.in_ok-put_pair.ensures.goes.0 i.free i.shape i.holds c.in_ok-put_pair.ensures.goes.1
 
 pub put_root-requires-clause-used : goal.put_root-requires-clause-used
-put_root-requires-clause-used c = let i = c.requires.index.1.0 in owner_used c.args.draft.now.image c.put_pair.new.draft.image c.args.self.now.store.node c.args.self.now.owner i.free i.shape i.holds i.owner_is.used c.in_ok-put_pair.ensures.goes
+put_root-requires-clause-used c = let i = c.requires.index.1.0 in owner_used c.args.draft.now.image c.put_pair.new.draft.image c.args.self.now.store.node c.args.self.now.owner c.in_ok-put_pair.ensures.goes.0 i.free i.shape i.holds i.owner_is.used c.in_ok-put_pair.ensures.goes.1
 
 pub put_root-requires-clause-inside : goal.put_root-requires-clause-inside
 put_root-requires-clause-inside c = c.requires.index.1.0.inside
@@ -68,7 +68,7 @@ returns-in-None-clause-ok c = λ pairs i l.
     let e = c.in_ok-put_pair.ensures in
     let f = subst (λ (r : Option DiskLoc). IsPutIn spec (bucket_in old node) (bucket_in new node) root x r) c.in-None.is e.ok in
     subst (λ (k : List ℕ). HasIndex new node owner position spec (ins (item_lt spec) (record { key = k; rec = c.args.rec }) pairs)) spelled
-    (put_none old node owner position spec root is x new e.goes f pairs i (subst (λ (k : List ℕ). IsLacking spec (record { key = k; rec = c.args.rec }) pairs) (sym spelled) l))
+    (put_none old node owner position spec root is x new e.goes.0 e.goes.1 f pairs i (subst (λ (k : List ℕ). IsLacking spec (record { key = k; rec = c.args.rec }) pairs) (sym spelled) l))
 
 pub returns-in_ok-put_root-in-Some-clause-ok : goal.returns-in_ok-put_root-in-Some-clause-ok
 returns-in_ok-put_root-in-Some-clause-ok c = λ pairs i l.
@@ -87,15 +87,15 @@ returns-in_ok-put_root-in-Some-clause-ok c = λ pairs i l.
     let e = c.in_ok-put_pair.ensures in
     let f = subst (λ (r : Option DiskLoc). IsPutIn spec (bucket_in old node) (bucket_in mid node) root x r) c.in-Some.is e.ok in
     subst (λ (k : List ℕ). HasIndex new node owner position spec (ins (item_lt spec) (record { key = k; rec = c.args.rec }) pairs)) spelled
-    (put_some old node owner position spec root is x mid new c.in-Some.top e.goes f c.in_ok-put_root-in-Some.ensures pairs i (subst (λ (k : List ℕ). IsLacking spec (record { key = k; rec = c.args.rec }) pairs) (sym spelled) l))
+    (put_some old node owner position spec root is x mid new c.in-Some.top e.goes.0 e.goes.1 f c.in_ok-put_root-in-Some.ensures.put pairs i (subst (λ (k : List ℕ). IsLacking spec (record { key = k; rec = c.args.rec }) pairs) (sym spelled) l))
 
 pub returns-in-None-clause-beside : goal.returns-in-None-clause-beside
 returns-in-None-clause-beside c =
-    goes_beside c.args.draft.now.image c.put_pair.new.draft.image c.args.self.now.store.node c.args.self.now.owner c.args.self.now.position c.in_ok-put_pair.ensures.goes
+    (c.in_ok-put_pair.ensures.goes.0, goes_beside c.args.draft.now.image c.put_pair.new.draft.image c.args.self.now.store.node c.args.self.now.owner c.args.self.now.position c.in_ok-put_pair.ensures.goes.0 c.in_ok-put_pair.ensures.goes.1)
 
 pub returns-in_ok-put_root-in-Some-clause-beside : goal.returns-in_ok-put_root-in-Some-clause-beside
 returns-in_ok-put_root-in-Some-clause-beside c =
-    goes_put c.args.draft.now.image c.put_pair.new.draft.image c.put_root.new.draft.image c.args.self.now.store.node c.args.self.now.owner c.args.self.now.position c.in-Some.top c.in_ok-put_pair.ensures.goes c.in_ok-put_root-in-Some.ensures c.requires.index.1.0.inside
+    (c.in_ok-put_pair.ensures.goes.0, goes_put c.args.draft.now.image c.put_pair.new.draft.image c.put_root.new.draft.image c.args.self.now.store.node c.args.self.now.owner c.args.self.now.position c.in_ok-put_pair.ensures.goes.0 c.in-Some.top c.in_ok-put_pair.ensures.goes.1 c.in_ok-put_root-in-Some.ensures.put c.requires.index.1.0.inside)
 
 pub returns-in-None-clause-alone : goal.returns-in-None-clause-alone
 returns-in-None-clause-alone c = λ pairs i u y.

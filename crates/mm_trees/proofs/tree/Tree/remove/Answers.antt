@@ -38,10 +38,10 @@ take_pair-requires-clause-tree c =
     (i.height, (i.s, tree_at old node owner position spec root is x c.requires.index.0 i))
 
 pub put_root-requires-clause-table : goal.put_root-requires-clause-table
-put_root-requires-clause-table c = let i = c.requires.index.1 in table_after c.args.draft.now.image c.take_pair.new.draft.image c.args.self.now.store.node i.free i.shape i.holds (c.in_ok-take_pair.ensures.goes c.in-Some.top c.in-Some.is)
+put_root-requires-clause-table c = let i = c.requires.index.1 in table_after c.args.draft.now.image c.take_pair.new.draft.image c.args.self.now.store.node (c.in_ok-take_pair.ensures.goes c.in-Some.top c.in-Some.is).0 i.free i.shape i.holds (c.in_ok-take_pair.ensures.goes c.in-Some.top c.in-Some.is).1
 
 pub put_root-requires-clause-used : goal.put_root-requires-clause-used
-put_root-requires-clause-used c = let i = c.requires.index.1 in owner_used c.args.draft.now.image c.take_pair.new.draft.image c.args.self.now.store.node c.args.self.now.owner i.free i.shape i.holds i.owner_is.used (c.in_ok-take_pair.ensures.goes c.in-Some.top c.in-Some.is)
+put_root-requires-clause-used c = let i = c.requires.index.1 in owner_used c.args.draft.now.image c.take_pair.new.draft.image c.args.self.now.store.node c.args.self.now.owner (c.in_ok-take_pair.ensures.goes c.in-Some.top c.in-Some.is).0 i.free i.shape i.holds i.owner_is.used (c.in_ok-take_pair.ensures.goes c.in-Some.top c.in-Some.is).1
 
 pub put_root-requires-clause-inside : goal.put_root-requires-clause-inside
 put_root-requires-clause-inside c = c.requires.index.1.inside
@@ -62,11 +62,11 @@ returns-in_ok-put_root-in-Some-clause-out c = λ _ pairs i.
     let new = c.put_root.new.draft.image in
     let e = c.in_ok-take_pair.ensures in
     subst (λ (k : List ℕ). HasIndex new node owner position spec (without spec (record { key = k; rec = c.args.rec }) pairs)) spelled
-    (taken_out old node owner position spec root is x mid new c.in-Some.top (e.goes c.in-Some.top c.in-Some.is) (e.out c.in-Some.top c.in-Some.is) c.in_ok-put_root-in-Some.ensures pairs i)
+    (taken_out old node owner position spec root is x mid new c.in-Some.top (e.goes c.in-Some.top c.in-Some.is).0 (e.goes c.in-Some.top c.in-Some.is).1 (e.out c.in-Some.top c.in-Some.is) c.in_ok-put_root-in-Some.ensures.put pairs i)
 
 pub returns-in_ok-put_root-in-Some-clause-beside : goal.returns-in_ok-put_root-in-Some-clause-beside
 returns-in_ok-put_root-in-Some-clause-beside c = λ _.
-    goes_put c.args.draft.now.image c.take_pair.new.draft.image c.put_root.new.draft.image c.args.self.now.store.node c.args.self.now.owner c.args.self.now.position c.in-Some.top (c.in_ok-take_pair.ensures.goes c.in-Some.top c.in-Some.is) c.in_ok-put_root-in-Some.ensures c.requires.index.1.inside
+    ((c.in_ok-take_pair.ensures.goes c.in-Some.top c.in-Some.is).0, goes_put c.args.draft.now.image c.take_pair.new.draft.image c.put_root.new.draft.image c.args.self.now.store.node c.args.self.now.owner c.args.self.now.position (c.in_ok-take_pair.ensures.goes c.in-Some.top c.in-Some.is).0 c.in-Some.top (c.in_ok-take_pair.ensures.goes c.in-Some.top c.in-Some.is).1 c.in_ok-put_root-in-Some.ensures.put c.requires.index.1.inside)
 
 pub returns-in-None-clause-there : goal.returns-in-None-clause-there
 returns-in-None-clause-there c = λ pairs i.
