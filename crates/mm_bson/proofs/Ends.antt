@@ -1,5 +1,5 @@
 -- Where a value's bytes lie in those of its document.
-use Rattle.std.proofs.Common.{◌≡◌, ℕ, ◌+◌, ◌-◌, ◌≤◌, List, [], ◌∷◌, ◌++◌, length, take, drop, sym, ap, subst, ◌∙◌, append_assoc, arith}
+use Rattle.std.proofs.Common.{◌≡◌, ℕ, ◌+◌, ◌-◌, ◌≤◌, List, [], ◌∷◌, ◌++◌, length, take, drop, refl, sym, ap, subst, ◌∙◌, append_assoc, arith}
 use Rattle.std.specs.Int.{w32, to_le_bytes}
 use Rattle.std.proofs.lemmas.List.{take_all, take-take, take_at, drop_at, drop-drop, drop-take, length-append, length-drop, length-take-le}
 use Rattle.mm_bson.specs.declared.doc.Value.{Value}
@@ -88,15 +88,20 @@ array_holds bytes part inner found vs h is deep same =
 
 -- ---- one more element, and one more value
 
-pub one_more : (done : List Element) (made : Element) (new : List Element) (name : List ℕ) (t : Tree) (rest old all : Elements) → new ≡ done ++ made ∷ [] → made.name ≡ name → tree made.value ≡ t
-    → old ≡ element name t rest → append (elements_of done) old ≡ all → append (elements_of new) rest ≡ all
-one_more done made new name t rest old all pushed named valued split so_far =
-    rw (pushed, elements_of-push done made, named, valued, append_elements_assoc (elements_of done) (element name t no_elements) rest) (ap (append (elements_of done)) (sym split) ∙ so_far)
+pub one_put : (done : List Element) (made : Element) (new : List Element) (name : List ℕ) (t : Tree) → new ≡ done ++ made ∷ [] → made.name ≡ name → tree made.value ≡ t
+    → elements_of new ≡ append (elements_of done) (element name t no_elements)
+one_put done made new name t pushed name_is valued = rw (pushed, elements_of-push done made, name_is, valued) refl
 
-pub one_more_value : (done : List Value) (made : Value) (new : List Value) (name : List ℕ) (t : Tree) (rest old : Elements) (all : Values) → new ≡ done ++ made ∷ [] → tree made ≡ t
-    → old ≡ element name t rest → append_values (values_of done) (unnamed old) ≡ all → append_values (values_of new) (unnamed rest) ≡ all
-one_more_value done made new name t rest old all pushed valued split so_far =
-    rw (pushed, values_of-push done made, valued, append_values_assoc (values_of done) (item t no_values) (unnamed rest)) (ap (λ (es : Elements). append_values (values_of done) (unnamed es)) (sym split) ∙ so_far)
+pub one_value_put : (done : List Value) (made : Value) (new : List Value) (t : Tree) → new ≡ done ++ made ∷ [] → tree made ≡ t → values_of new ≡ append_values (values_of done) (item t no_values)
+one_value_put done made new t pushed valued = rw (pushed, values_of-push done made, valued) refl
+
+pub one_more : (done new : Elements) (name : List ℕ) (t : Tree) (rest old all : Elements) → new ≡ append done (element name t no_elements) → old ≡ element name t rest → append done old ≡ all → append new rest ≡ all
+one_more done new name t rest old all put split so_far = rw (put, append_elements_assoc done (element name t no_elements) rest) (ap (append done) (sym split) ∙ so_far)
+
+pub one_more_value : (done new : Values) (name : List ℕ) (t : Tree) (rest old : Elements) (all : Values) → new ≡ append_values done (item t no_values) → old ≡ element name t rest
+    → append_values done (unnamed old) ≡ all → append_values new (unnamed rest) ≡ all
+one_more_value done new name t rest old all put split so_far =
+    rw (put, append_values_assoc done (item t no_values) (unnamed rest)) (ap (λ (es : Elements). append_values done (unnamed es)) (sym split) ∙ so_far)
 
 -- ---- a part of a part
 

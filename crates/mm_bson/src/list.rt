@@ -54,11 +54,10 @@ impl DocList {
     pub fn copy(&self) -> Result<DocList, AllocError>
         ensures { IfOk result (λ l. l ≡ self.now) }
     {
-        let mut copied = Vec::with_capacity(*self.documents.allocator(), self.documents.len())?;
-        let mut rest = self.documents.as_slice();
-        while let [first, others @ ..] = rest {
-            copied.push(first.copy()?)?;
-            rest = others;
+        let documents = self.documents();
+        let mut copied = Vec::with_capacity(*self.documents.allocator(), documents.len())?;
+        for document in documents {
+            copied.push(document.copy()?)?;
         }
         Ok(DocList { documents: copied })
     }

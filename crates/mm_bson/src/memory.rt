@@ -3,15 +3,15 @@
 //! The bytes are copied once. Each document and array inside shares them; it is
 //! found in them by the place behind it.
 
-ghost use Rattle.std.specs.Prelude.{◌≡◌, ◌≤◌, ◌+◌, length, IfOk};
-ghost use Rattle.mm_bson.specs.Tree.{Elements, depth, values_depth};
+ghost use Rattle.std.specs.Prelude.{◌≡◌, ◌≤◌, ◌+◌, length, IfOk, OnOk};
+ghost use Rattle.mm_bson.specs.Tree.{Elements, no_elements, element, append, depth, no_values, item as item_of, append_values, values_depth};
 ghost use Rattle.mm_bson.specs.Named.{unnamed};
 ghost use Rattle.mm_bson.specs.Spelling.{spelling, array_spelling, value_spelling, elements_spelling};
 ghost use Rattle.mm_bson.specs.View.{tree, tree_in, elements_of, values_of};
 ghost use Rattle.mm_bson.specs.Walk.{EndsAt, IsPlain, SpellsDocument};
 
 use crate::doc::{Doc, Element, Value, ValueList};
-use crate::place::{DocRef, Fields, ListRef, ValueRef};
+use crate::place::{DocRef, FieldRef, Fields, ListRef, ValueRef};
 use crate::shared::Shared;
 use crate::text::{Blob, Text};
 use std::alloc::{AllocError, Global};
@@ -21,10 +21,8 @@ fn levels_of(elements: &[Element]) -> usize
     ensures { result ≡ depth (elements_of elements.now) }
 {
     let mut most = 0;
-    let mut rest = elements;
-    while let [first, others @ ..] = rest {
-        most = most.max(first.value.levels());
-        rest = others;
+    for element in elements {
+        most = most.max(element.value.levels());
     }
     most
 }
@@ -34,15 +32,14 @@ fn levels_of_values(values: &[Value]) -> usize
     ensures { result ≡ values_depth (values_of values.now) }
 {
     let mut most = 0;
-    let mut rest = values;
-    while let [first, others @ ..] = rest {
-        most = most.max(first.levels());
-        rest = others;
+    for value in values {
+        most = most.max(value.levels());
     }
     most
 }
 
 /// A value with no document or array in it.
+#[inline(always)]
 fn plain(alloc: Global, value: &ValueRef<'_>) -> Result<Value, AllocError>
     requires { IsPlain (tree_in value.now) }
     ensures { IfOk result (λ v. tree v ≡ tree_in value.now) }
@@ -71,6 +68,7 @@ fn plain(alloc: Global, value: &ValueRef<'_>) -> Result<Value, AllocError>
 
 /// The value that ends at this place of the bytes.
 #[cycle(build)]
+#[inline(always)]
 #[tactic(auto, unfolding(crate::specs::Spelling::spelling, crate::specs::Spelling::array_spelling))]
 fn value(alloc: Global, all: &Shared, end: usize, value: &ValueRef<'_>) -> Result<Value, AllocError>
     requires { EndsAt end (value_spelling (tree_in value.now)) all.now }
@@ -81,6 +79,46 @@ fn value(alloc: Global, all: &Shared, end: usize, value: &ValueRef<'_>) -> Resul
         ValueRef::Array(inner) => Ok(Value::Array(list(alloc, all, end, inner)?)),
         _ => plain(alloc, value),
     }
+}
+
+/// Puts an element behind others, whose value ends at this place of the bytes.
+/// The value is made where it goes to stand, since moving it is dear.
+#[cycle(build)]
+#[inline(never)]
+fn put(
+    alloc: Global,
+    all: &Shared,
+    end: usize,
+    field: &FieldRef<'_>,
+    found: &mut Vec<Element>,
+) -> Result<(), AllocError>
+    requires { EndsAt end (value_spelling (tree_in field.now.value)) all.now }
+    ensures { OnOk result (elements_of found.new.items ≡ append (elements_of found.old.items) (element field.now.name (tree_in field.now.value) no_elements)) }
+{
+    found.reserve(1)?;
+    let name = Text::from_slice(alloc, field.name.as_bytes())?;
+    let value = value(alloc, all, end, &field.value)?;
+    found.push_reserved(Element { name, value });
+    Ok(())
+}
+
+/// The same for a value of an array.
+#[cycle(build)]
+#[inline(never)]
+fn put_item(
+    alloc: Global,
+    all: &Shared,
+    end: usize,
+    item: &ValueRef<'_>,
+    found: &mut Vec<Value>,
+) -> Result<(), AllocError>
+    requires { EndsAt end (value_spelling (tree_in item.now)) all.now }
+    ensures { OnOk result (values_of found.new.items ≡ append_values (values_of found.old.items) (item_of (tree_in item.now) no_values)) }
+{
+    found.reserve(1)?;
+    let made = value(alloc, all, end, item)?;
+    found.push_reserved(made);
+    Ok(())
 }
 
 #[cycle(build)]
@@ -97,9 +135,7 @@ fn elements(
     let mut rest = fields;
     'fields: while let Some(field) = rest.next() {
         let behind = end - rest.bytes().len();
-        let value = value(alloc, all, behind, &field.value)?;
-        let name = Text::from_slice(alloc, field.name.as_bytes())?;
-        found.push(Element { name, value })?;
+        put(alloc, all, behind, &field, &mut found)?;
     }
     Ok(found)
 }
@@ -118,7 +154,7 @@ fn values(
     let mut rest = fields;
     'fields: while let Some(field) = rest.next() {
         let behind = end - rest.bytes().len();
-        found.push(value(alloc, all, behind, &field.value)?)?;
+        put_item(alloc, all, behind, &field.value, &mut found)?;
     }
     Ok(found)
 }
@@ -162,6 +198,7 @@ fn list(
 impl Doc {
     /// The document of these bytes, which are known to spell one. They are read
     /// once and not copied.
+    #[inline(always)]
     pub fn of_spelled(bytes: Vec<u8>) -> Result<Doc, AllocError>
         requires { (es : Elements) × SpellsDocument bytes.items es }
         ensures { IfOk result (λ d. (es : Elements) → SpellsDocument bytes.items es → d ≡ es) }
@@ -173,6 +210,7 @@ impl Doc {
     }
 
     /// A document in memory that is the one in place.
+    #[inline(always)]
     pub fn copy_of(alloc: Global, document: &DocRef<'_>) -> Result<Doc, AllocError>
         ensures { IfOk result (λ d. d ≡ document.now) }
     {

@@ -28,12 +28,10 @@ fn after(path: &[u8], at: usize) -> &[u8]
 fn find<'a>(elements: &'a [Element], name: &[u8]) -> Option<&'a Value>
     ensures { option_map (λ v. tree v.now) result ≡ find_in name.now (elements_of elements.now) }
 {
-    let mut rest = elements;
-    while let [first, others @ ..] = rest {
-        if first.name.as_bytes() == name {
-            return Some(&first.value);
+    for element in elements {
+        if element.name.as_bytes() == name {
+            return Some(&element.value);
         }
-        rest = others;
     }
     None
 }

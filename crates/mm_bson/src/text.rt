@@ -46,12 +46,10 @@ pub fn is_text(bytes: &[u8]) -> bool
 fn has_no_zero(bytes: &[u8]) -> bool
     ensures { IsTrue result ↔ HasNoZero bytes.now }
 {
-    let mut rest = bytes;
-    while let [first, others @ ..] = rest {
-        if *first == 0 {
+    for byte in bytes {
+        if *byte == 0 {
             return false;
         }
-        rest = others;
     }
     true
 }

@@ -7,19 +7,25 @@ use Rattle.mm_bson.specs.Walk.{size, EndsAt}
 use Rattle.mm_bson.proofs.memory.+build.Given as goal
 
 abbrev pub decreases-document : goal.decreases-document
-decreases-document l = 3 * depth l.document.now + 2
+decreases-document l = 4 * depth l.document.now + 3
 
 abbrev pub decreases-list : goal.decreases-list
-decreases-list l = 3 * values_depth l.list.now + 2
+decreases-list l = 4 * values_depth l.list.now + 3
 
 abbrev pub decreases-elements : goal.decreases-elements
-decreases-elements l = 3 * depth l.fields + 1
+decreases-elements l = 4 * depth l.fields + 2
 
 abbrev pub decreases-values : goal.decreases-values
-decreases-values l = 3 * depth l.fields + 1
+decreases-values l = 4 * depth l.fields + 2
+
+abbrev pub decreases-put : goal.decreases-put
+decreases-put l = 4 * tree_depth (tree_in l.field.now.value) + 1
+
+abbrev pub decreases-put_item : goal.decreases-put_item
+decreases-put_item l = 4 * tree_depth (tree_in l.item.now) + 1
 
 abbrev pub decreases-value : goal.decreases-value
-decreases-value l = 3 * tree_depth (tree_in l.value.now)
+decreases-value l = 4 * tree_depth (tree_in l.value.now)
 
 abbrev pub invariant-elements-fields : goal.invariant-elements-fields
 invariant-elements-fields l = record {

@@ -1,10 +1,7 @@
-use Rattle.std.proofs.Common.{◌≡◌, length, max}
+use Rattle.std.proofs.Common.{◌≡◌, drop, max}
 use Rattle.mm_bson.specs.Tree.{depth}
 use Rattle.mm_bson.specs.View.{elements_of}
 use Rattle.mm_bson.proofs.memory.levels_of.Given as goal
 
-abbrev pub invariant-loop-rest : goal.invariant-loop-rest
-invariant-loop-rest l = max l.most (depth (elements_of l.rest)) ≡ depth (elements_of l.elements)
-
-abbrev pub decreases-loop-rest : goal.decreases-loop-rest
-decreases-loop-rest l = length l.rest
+abbrev pub invariant-loop-element : goal.invariant-loop-element
+invariant-loop-element l = max l.most (depth (elements_of (drop l.element-index l.elements))) ≡ depth (elements_of l.elements)

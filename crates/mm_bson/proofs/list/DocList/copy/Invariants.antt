@@ -1,8 +1,5 @@
-use Rattle.std.proofs.Common.{◌≡◌, ◌++◌, length}
+use Rattle.std.proofs.Common.{◌≡◌, take}
 use Rattle.mm_bson.proofs.list.DocList.copy.Given as goal
 
-abbrev pub invariant-loop-rest : goal.invariant-loop-rest
-invariant-loop-rest l = l.copied.items ++ l.rest ≡ l.self
-
-abbrev pub decreases-loop-rest : goal.decreases-loop-rest
-decreases-loop-rest l = length l.rest
+abbrev pub invariant-loop-document : goal.invariant-loop-document
+invariant-loop-document l = l.copied.items ≡ take l.document-index l.documents
