@@ -88,7 +88,7 @@ head_place image r d (p ∷ ps) l = let t = loc_numbers image d p l.0 in loc_is 
 
 -- ---- sums
 
-sum_same : (f g : Place → ℕ) (xs : List Place) → ((p : Place) → has xs p ≡ true → f p ≡ g p) → sum_by f xs ≡ sum_by g xs
+pub sum_same : (f g : Place → ℕ) (xs : List Place) → ((p : Place) → has xs p ≡ true → f p ≡ g p) → sum_by f xs ≡ sum_by g xs
 sum_same f g [] h = refl
 sum_same f g (x ∷ xs) h = sum_by-cons f x xs ∙ (λ i. h x (has_here x xs x (same_own x)) i + sum_same f g xs (λ p j. h p (has_more x xs p j)) i) ∙ sym (sum_by-cons g x xs)
 

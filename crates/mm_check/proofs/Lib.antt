@@ -40,3 +40,10 @@ pub mod OwnedLists
 pub mod FoundLists
 pub mod FreeNames
 pub mod FoundStands
+pub mod StandsFiles
+pub mod EachWhole
+pub mod StandsChains
+pub mod StandsBlocks
+pub mod StandsClear
+pub mod StandsShape
+pub mod CheckStands

@@ -34,12 +34,12 @@ head_own image file (Some p) low =
     let n = loc_fits p l.0 l.1 in
     (λ i. link_in image (n.0 i) (n.1 i)) ∙ if_yes _ _ _ (nat_lt_of p.0 8 l.0) ∙ ap (λ (f : ℕ). to_offset image f p.1) l.2
 
-module _ (image : Image) (s : Shape) (unused : ℕ → Option ℤ) (free : List ℕ) (st : RecordsStand free s) (heap : IsHeap image s.heap) (tiled : IsTiled (ground s.heap) unused free) (lengths : (file : ℕ) → length (bytes_at image file) ≤ 67108864) where
+module _ (image : Image) (s : Shape) (unused : ℕ → Option ℤ) (free : List ℕ) (st : RecordsStand free s) (heap : IsHeap image s.heap) (tiled : IsTiled (ground s.heap) unused free) (lengths : (file : ℕ) → file < 8 → length (bytes_at image file) ≤ 67108864) where
   rec_is : (p : Place) (h : RecHeader) (room : List ℕ) → s.heap p ≡ Some (live h room) → rec_at image p ≡ h
   rec_is p h room e = (heap.shown p (live h room) e).0
 
   low : (p : Place) (h : RecHeader) (room : List ℕ) → s.heap p ≡ Some (live h room) → (p.0 < 8) × (p.1 < 67108864)
-  low p h room e = (heap.data_file p (live h room) e, let i = heap.inside p (live h room) e in let m = lengths p.0 in omega (arith, i, m))
+  low p h room e = let f = heap.data_file p (live h room) e in (f, let i = heap.inside p (live h room) e in let m = lengths p.0 f in omega (arith, i, m))
 
   module _ (e : Place) (h : ExtentHeader) (len : ℕ) (is : s.heap e ≡ Some (extent h)) (isnt_free : text_in h.namespace ≢ free) (long : h.len ≡ pos len) where
     right : (p : Place) → has (s.records e) p ≡ true → IsRecordAt image e len p

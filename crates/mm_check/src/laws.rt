@@ -3,11 +3,17 @@
 ghost use Rattle.std.specs.Prelude.{◌≡◌, List, ℕ};
 ghost use Rattle.mm_ranges.specs.Overlay.{Image};
 ghost use Rattle.mm_links.specs.Links.{Place};
-ghost use Rattle.mm_check.specs.Findings.{Clear3, Clear9};
-ghost use Rattle.mm_check.specs.Standing.{HasNoDot, HasShape, found_shape};
+ghost use Rattle.mm_records.specs.Shape.{Shape};
+ghost use Rattle.mm_check.specs.Findings.{Clear3, Clear9, IsClear};
+ghost use Rattle.mm_check.specs.Standing.{HasNoDot, HasShape, found_shape, IsSameShape};
 
-/// Where no phase up to `counts` finds anything, points 1 to 5 of what stands hold of the files, with the shape that the walks find.
-pub fn found_shape_stands()
-    ensures { (d : List ℕ) → HasNoDot d → (image : Image) (found chains records blocks : List (List Place))
+/// No phase up to `counts` finds anything exactly where points 1 to 5 of what stands hold of the files with some shape; and that shape is the
+/// one that the walks find. From the check to what stands it is said of databases whose name has no dot.
+pub fn clear_where_some_shape_stands()
+    ensures stands { (d : List ℕ) → HasNoDot d → (image : Image) → IsClear d image → (s : Shape) × HasShape d image s }
+    ensures clear { (d : List ℕ) (image : Image) (s : Shape) → HasShape d image s → IsClear d image }
+    ensures found { (d : List ℕ) → HasNoDot d → (image : Image) (found chains records blocks : List (List Place))
         → Clear3 d image found → Clear9 d image chains records blocks → HasShape d image (found_shape d image found chains records blocks) }
+    ensures same { (d : List ℕ) (image : Image) (s : Shape) → HasShape d image s → (found chains records blocks : List (List Place))
+        → Clear3 d image found → Clear9 d image chains records blocks → IsSameShape s (found_shape d image found chains records blocks) }
 {}

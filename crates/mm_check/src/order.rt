@@ -4,12 +4,14 @@ ghost use Rattle.std.specs.Prelude.{◌≡◌, ◌++◌, [], map, flat_map, None
 ghost use Rattle.mm_links.specs.Links.{Place};
 ghost use Rattle.mm_model.specs.declared.finding.What.{What};
 ghost use Rattle.mm_model.specs.declared.finding.CheckFault.TheVariants.{Found, NoMemory};
+ghost use Rattle.mm_records.specs.Shape.{Shape};
 ghost use Rattle.mm_walk.specs.Questions.{first_failing};
 ghost use Rattle.mm_walk.specs.Walk.{Knows, seen_after};
 ghost use Rattle.mm_check.specs.FileQuestions.{file_questions};
 ghost use Rattle.mm_check.specs.NodeForms.{IsForms};
 ghost use Rattle.mm_check.specs.Findings.{joined, nodes_in, owners, Clear2, Clear3, Clear5, Clear6, Clear7, Clear8, Clear9, IsClear};
 ghost use Rattle.mm_check.specs.Phases.{owner_of};
+ghost use Rattle.mm_check.specs.Standing.{HasNoDot, HasShape};
 ghost use Rattle.mm_check.specs.TheCheck.{IsFinding, IfFound, Finds, IsFault, IsOutcome};
 
 use crate::counts::wrong_counts;
@@ -411,14 +413,17 @@ fn check_phases(alloc: Global, name: &Name, views: &Views, forms: &Forms) -> Res
     }
 }
 
-/// The first finding of the phases `file` to `counts` in the private image of a database's files, or Ok exactly where they find nothing.
-/// Only this finding is the first. After `NoMemory` nothing is known.
+/// The first finding of the phases `file` to `counts` in the private image of a database's files, or Ok exactly where they find nothing. Only
+/// this finding is the first. Where one is found, points 1 to 5 of what stands hold of the files with no shape; with Ok they hold with some,
+/// the database's name having no dot. After `NoMemory` nothing is known.
 pub fn check_files(alloc: Global, name: &Name, views: &Views) -> Result<(), CheckFault>
     ensures clear { OnOk result (IsClear name.now views.now.private) }
     ensures none { OnOk result ((what : What) (at : Place) → IsFinding name.now views.now.private what at → ⊥) }
     ensures found { Finds name.now views.now.private result }
     ensures only { IfFound result (λ f. (what : What) (at : Place) → IsFinding name.now views.now.private what at → (what ≡ f.what) × (at ≡ (f.file, f.at))) }
     ensures unclear { IfFound result (λ f. IsClear name.now views.now.private → ⊥) }
+    ensures stands { OnOk result (HasNoDot name.now → (s : Shape) × HasShape name.now views.now.private s) }
+    ensures nowhere { IfFound result (λ f. (s : Shape) → HasShape name.now views.now.private s → ⊥) }
 {
     match forms_of(alloc, name.bytes()) {
         Err(_) => Err(CheckFault::NoMemory),

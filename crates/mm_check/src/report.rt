@@ -5,10 +5,12 @@ ghost use Rattle.mm_links.specs.Links.{Place};
 ghost use Rattle.mm_model.specs.declared.finding.What.{What};
 ghost use Rattle.mm_nstable.specs.Nodes.{count_of, is_used};
 ghost use Rattle.mm_records.specs.Constants.{is_collection};
+ghost use Rattle.mm_records.specs.Shape.{Shape};
 ghost use Rattle.mm_records.specs.Stands.{ns_in};
 ghost use Rattle.mm_check.specs.ExtentChain.{nat_of};
 ghost use Rattle.mm_check.specs.Findings.{files_from, nodes_in, name_of, details_at, IsClear};
 ghost use Rattle.mm_check.specs.Reports.{no_file, collections_of, told_of, IsReport, IsEmptyReport};
+ghost use Rattle.mm_check.specs.Standing.{HasNoDot, HasShape};
 ghost use Rattle.mm_check.specs.TheCheck.{IsFinding, IfFound};
 
 use crate::constants::is_collection;
@@ -126,6 +128,8 @@ pub fn check(alloc: Global, name: &Name, views: &Views) -> Result<Report, CheckF
     ensures found { IfFound result (λ f. IsFinding name.now views.now.private f.what (f.file, f.at)) }
     ensures only { IfFound result (λ f. (what : What) (at : Place) → IsFinding name.now views.now.private what at → (what ≡ f.what) × (at ≡ (f.file, f.at))) }
     ensures unclear { IfFound result (λ f. IsClear name.now views.now.private → ⊥) }
+    ensures stands { IfOk result (λ report. no_file views.now.private ≡ false → HasNoDot name.now → (s : Shape) × HasShape name.now views.now.private s) }
+    ensures nowhere { IfFound result (λ f. (s : Shape) → HasShape name.now views.now.private s → ⊥) }
 {
     if has_no_file(views) {
         return Ok(empty_report());

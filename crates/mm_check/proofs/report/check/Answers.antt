@@ -6,6 +6,8 @@ use Rattle.mm_model.specs.declared.finding.Report.{Report}
 use Rattle.mm_check.specs.Findings.{IsClear}
 use Rattle.mm_check.specs.Reports.{no_file}
 use Rattle.mm_check.specs.TheCheck.{IsFinding}
+use Rattle.mm_records.specs.Shape.{Shape}
+use Rattle.mm_check.specs.Standing.{HasShape}
 use Rattle.mm_check.proofs.CheckSteps.{found_all, found_again}
 use Rattle.mm_check.proofs.report.check.Goals as goal
 
@@ -20,6 +22,8 @@ returns-then-has_no_file c =
       found = tt;
       only = tt;
       unclear = tt;
+      stands = λ e. absurd (false≢true (sym e ∙ none));
+      nowhere = tt;
     }
 
 pub returns-in-Err : goal.returns-in-Err
@@ -33,6 +37,8 @@ returns-in-Err c =
       found = found_again (Unit {0}) Report c.in-Err.fault (λ f. IsFinding c.args.name.now c.args.views.now.private f.what (f.file, f.at)) c.in-Err.ensures.found;
       only = found_again (Unit {0}) Report c.in-Err.fault (λ f. (what : What) (at : Place) → IsFinding c.args.name.now c.args.views.now.private what at → (what ≡ f.what) × (at ≡ (f.file, f.at))) c.in-Err.ensures.only;
       unclear = found_again (Unit {0}) Report c.in-Err.fault (λ f. IsClear c.args.name.now c.args.views.now.private → ⊥) c.in-Err.ensures.unclear;
+      stands = tt;
+      nowhere = found_again (Unit {0}) Report c.in-Err.fault (λ f. (s : Shape) → HasShape c.args.name.now c.args.views.now.private s → ⊥) c.in-Err.ensures.nowhere;
     }
 
 pub returns-in-Ok : goal.returns-in-Ok
@@ -46,4 +52,6 @@ returns-in-Ok c =
       found = tt;
       only = tt;
       unclear = tt;
+      stands = λ e. c.in-Ok.ensures.stands;
+      nowhere = tt;
     }
