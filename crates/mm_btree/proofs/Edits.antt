@@ -1,5 +1,5 @@
 -- A bucket with one pair more, and its children, as the tree sees them.
-use Rattle.std.proofs.Common.{◌≡◌, ◌≢◌, ℕ, zero, suc, ◌+◌, ◌<◌, ◌≤◌, Bool, true, false, cond, nat_eq, get_or, slice_get, List, [], ◌∷◌, ◌++◌, length, map, take, drop, insert, Some, refl, sym, ap, ◌∙◌, subst, arith, inl, inr}
+use Rattle.std.proofs.Common.{◌≡◌, ℕ, zero, suc, ◌<◌, ◌≤◌, Bool, true, false, cond, nat_eq, slice_get, List, [], ◌∷◌, ◌++◌, length, map, take, drop, insert, Some, refl, sym, ap, ◌∙◌, subst, arith, inl, inr}
 use Rattle.std.specs.List.{AllByRecursion}
 use Rattle.std.proofs.lemmas.List.{length-append}
 use Rattle.std.proofs.lemmas.Bool.{eqb-true, eqb-false}
@@ -7,7 +7,7 @@ use Rattle.mm_base.specs.Places.{null}
 use Rattle.mm_base.specs.declared.place.DiskLoc.{DiskLoc}
 use Rattle.mm_bucket.specs.Pairs.{Pair, Contents, pair_at, child_at, with_left, with_pair}
 use Rattle.mm_bucket.specs.Rules.{left_of, children, IsNull, IsPlace, AreAlike}
-use Rattle.mm_btree.specs.Nodes.{Item, Node, item_of, place_eq, node_of}
+use Rattle.mm_btree.specs.Nodes.{Node, place_eq, node_of}
 use Rattle.mm_btree.proofs.Places.{place_eq-true, place_eq-is, place_differ}
 use Rattle.mm_btree.proofs.ListLaws.{all-right}
 use Rattle.mm_btree.proofs.TwoLists.{children_put, items_put}

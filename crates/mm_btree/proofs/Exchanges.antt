@@ -1,14 +1,14 @@
 -- A bucket with another child, or of which a pair is gone or gives way to another, as the tree sees it.
-use Rattle.std.proofs.Common.{◌≡◌, ◌≢◌, ℕ, zero, suc, ◌+◌, ◌-◌, ◌<◌, ◌≤◌, Bool, true, false, cond, nat_eq, get_or, List, [], ◌∷◌, ◌++◌, length, map, take, drop, insert, remove, Option, Some, None, IsSome, refl, sym, ap, ◌∙◌, subst, add-one, arith, inl, inr}
+use Rattle.std.proofs.Common.{◌≡◌, ℕ, zero, suc, ◌+◌, ◌<◌, ◌≤◌, Bool, true, false, cond, nat_eq, get_or, List, [], ◌∷◌, ◌++◌, length, map, take, drop, insert, remove, refl, sym, ap, ◌∙◌, subst, add-one, arith, inl, inr}
 use Rattle.std.specs.List.{AllByRecursion}
-use Rattle.std.proofs.lemmas.List.{length-append, length-map, length-take-le, length-drop}
+use Rattle.std.proofs.lemmas.List.{length-map}
 use Rattle.std.proofs.lemmas.Bool.{eqb-true, eqb-false}
 use Rattle.std.proofs.lemmas.Option.{get_or_from_slice_get}
 use Rattle.mm_base.specs.Places.{null}
 use Rattle.mm_base.specs.declared.place.DiskLoc.{DiskLoc}
-use Rattle.mm_bucket.specs.Pairs.{Pair, Contents, blank, pair_at, child_at, with_child, with_left, with_pair}
+use Rattle.mm_bucket.specs.Pairs.{Pair, Contents, blank, child_at, with_child, with_left, with_pair}
 use Rattle.mm_bucket.specs.Rules.{left_of, children, IsNull, IsPlace, AreAlike}
-use Rattle.mm_btree.specs.Nodes.{Item, Node, item_of, node_of, place_eq}
+use Rattle.mm_btree.specs.Nodes.{Item, item_of, node_of, place_eq}
 use Rattle.mm_btree.specs.Removal.{with_item, without_item}
 use Rattle.mm_btree.proofs.ListLaws.{all-right}
 use Rattle.mm_btree.proofs.TwoLists.{children_put, children_removed, items_put}

@@ -1,25 +1,24 @@
 -- What insert_below's calls are owed, and what it leaves, at the place and height that it is given.
 use Rattle.std.proofs.lemmas.List.{length-map}
 use Rattle.std.proofs.lemmas.Result.{IfOk-weaker}
-use Rattle.std.proofs.Common.{◌≡◌, ℕ, zero, suc, ◌+◌, ◌-◌, ◌<◌, ◌≤◌, Bool, List, [], ◌∷◌, ◌++◌, length, insert, slice_get, map, take, drop, get_or, Option, Some, None, IsSome, Result, IfOk, refl, sym, ap, ◌∙◌, subst, arith}
-use Rattle.std.specs.List.{AllByRecursion}
+use Rattle.std.proofs.Common.{◌≡◌, ℕ, zero, suc, ◌-◌, ◌<◌, ◌≤◌, Bool, List, [], ◌∷◌, ◌++◌, length, insert, slice_get, map, take, drop, get_or, Option, Some, None, IsSome, Result, IfOk, refl, sym, ap, ◌∙◌, subst, arith}
 use Rattle.std.specs.declared.cmp.Ordering.TheVariants.{Equal}
 use Rattle.mm_base.specs.Places.{null}
 use Rattle.mm_base.specs.declared.place.DiskLoc.{DiskLoc}
 use Rattle.mm_bson.specs.Tree.{Elements}
 use Rattle.mm_bucket.specs.Pairs.{Contents, child_at, with_pair}
 use Rattle.mm_bucket.specs.Rules.{children, AreAlike}
-use Rattle.mm_btree.specs.Nodes.{Item, Node, Buckets, item_of, node_of}
-use Rattle.mm_btree.specs.Lists.{front, back, weave, has, ins, Sorted}
+use Rattle.mm_btree.specs.Nodes.{Item, Node, Buckets, node_of}
+use Rattle.mm_btree.specs.Lists.{front, back, ins, Sorted}
 use Rattle.mm_btree.specs.Trees.{Sub, at_of, pairs_of, IsOver, Became}
-use Rattle.mm_btree.specs.Changes.{Up, AreThere, IsPlace, IsSettled, StandsAt, IsInserted, least_at, roots_of, between_of}
+use Rattle.mm_btree.specs.Changes.{Up, AreThere, IsPlace, IsSettled, StandsAt, IsInserted, roots_of, between_of}
 use Rattle.mm_btree.specs.Order.{item_compare, item_lt, IsLacking}
 use Rattle.mm_btree.specs.declared.fault.TreeFault.{TreeFault}
 use Rattle.mm_btree.proofs.ListLaws.{all-left, all-right}
 use Rattle.mm_btree.proofs.Segments.{Cut}
 use Rattle.mm_btree.proofs.Inserting.{leaf_at, inner_none, inner_some, inner_there, child}
 use Rattle.mm_btree.proofs.Ordered.{item_chains, all_weave, sorted_weave}
-use Rattle.mm_btree.proofs.Edits.{leaf_next, leaf_put, inner_put, inner_kids, leaf_kids, kids_none, kids_all, child_is}
+use Rattle.mm_btree.proofs.Edits.{leaf_next, leaf_put, kids_none, kids_all, child_is}
 
 -- a height above 0
 pub deeper : (h : ℕ) → 0 < h → h ≡ suc (h - 1)

@@ -1,5 +1,5 @@
 -- Two neighbours, of which one has no pairs, as one bucket into which the pair between is put.
-use Rattle.std.proofs.Common.{◌≡◌, ◌≢◌, ◌⊎◌, inl, inr, ℕ, zero, suc, ◌+◌, ◌<◌, ◌≤◌, Bool, true, false, cond, get_or, List, [], ◌∷◌, ◌++◌, length, map, take, drop, insert, Option, Some, None, IsSome, refl, sym, ap, ◌∙◌, subst, arith}
+use Rattle.std.proofs.Common.{◌≡◌, ◌⊎◌, inl, inr, ℕ, zero, suc, ◌<◌, ◌≤◌, Bool, true, false, cond, get_or, List, [], ◌∷◌, ◌++◌, length, map, take, drop, insert, Option, Some, None, IsSome, refl, sym, ap, ◌∙◌, subst, arith}
 use Rattle.std.specs.List.{AllByRecursion}
 use Rattle.std.proofs.lemmas.List.{length-map}
 use Rattle.std.proofs.lemmas.Bool.{cases_Bool}
@@ -9,13 +9,13 @@ use Rattle.mm_bucket.specs.Pairs.{Pair, Contents, child_at, with_child, with_pai
 use Rattle.mm_bucket.specs.Rules.{left_of, children, IsNull, IsPlace, AreAlike}
 use Rattle.mm_btree.specs.Nodes.{Item, Node, Buckets, item_of, node_of, place_eq, put, with_parent}
 use Rattle.mm_btree.specs.Lists.{has}
-use Rattle.mm_btree.specs.Changes.{Up, adopted, AreThere, IsSettled, freed, joined_node}
+use Rattle.mm_btree.specs.Changes.{adopted, AreThere, IsSettled, joined_node}
 use Rattle.mm_btree.specs.Removal.{AreNeighbours, up_at, IsJoined}
 use Rattle.mm_btree.proofs.Places.{place_eq-true, place_eq-is}
 use Rattle.mm_btree.proofs.ListLaws.{has-append}
 use Rattle.mm_btree.proofs.TwoLists.{children_put, items_put}
 use Rattle.mm_btree.proofs.Edits.{same_node, kids_none, kids_all, leaf_alike, leaf_put, inner_alike, inner_put, children_len}
-use Rattle.mm_btree.proofs.Exchanges.{children_with, items_with, parent_with, pairs_with, null_children, place_children, last_of, all_take, all_set, all_child, child_get}
+use Rattle.mm_btree.proofs.Exchanges.{children_with, items_with, parent_with, null_children, place_children, last_of, child_get}
 
 insert_end : {P : Type 0} (xs : List P) (n : ℕ) (x : P) → n ≡ length xs → take n xs ++ x ∷ drop n xs ≡ xs ++ x ∷ []
 insert_end [] zero x e = refl

@@ -29,3 +29,4 @@ pub mod RemoveCalls
 pub mod SteadCalls
 pub mod RootLeft
 pub mod WholeCalls
+pub mod Costs

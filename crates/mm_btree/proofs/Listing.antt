@@ -1,7 +1,7 @@
 -- What is listed below a place is what the subtree there holds; the parts of the list, and which of its pairs lie between two bounds.
-use Rattle.std.proofs.Common.{◌≡◌, ◌≢◌, ◌⊎◌, inl, inr, ℕ, zero, suc, ◌+◌, ◌-◌, ◌<◌, ◌≤◌, Bool, true, false, not, ◌&&◌, List, [], ◌∷◌, ◌++◌, length, map, take, drop, filter, cond, get_or, Option, Some, None, refl, sym, ap, ◌∙◌, subst, arith, append_assoc, append-nil}
+use Rattle.std.proofs.Common.{◌≡◌, ◌⊎◌, inl, inr, ℕ, zero, suc, ◌<◌, ◌≤◌, Bool, true, false, not, ◌&&◌, List, [], ◌∷◌, ◌++◌, length, map, take, drop, filter, get_or, Option, Some, None, refl, sym, ap, ◌∙◌, subst, arith, append_assoc, append-nil}
 use Rattle.std.proofs.Math.Seq.{drop-cons}
-use Rattle.std.proofs.lemmas.List.{length-take-le, length-drop, length-map, map-append, take-append-drop}
+use Rattle.std.proofs.lemmas.List.{length-take-le, length-drop, map-append, take-append-drop}
 use Rattle.std.proofs.lemmas.List.Elements.{filter-append}
 use Rattle.std.specs.List.{AllByRecursion}
 use Rattle.std.specs.Cmp.{IsTotalOrder}
@@ -13,7 +13,7 @@ use Rattle.mm_bson.specs.Tree.{Elements}
 use Rattle.mm_bson.specs.Walk.{document_in}
 use Rattle.mm_keys.specs.KeyOrder.{key_compare}
 use Rattle.mm_keys.proofs.Totals.{key_compare_total}
-use Rattle.mm_btree.specs.Nodes.{Item, Node, Buckets}
+use Rattle.mm_btree.specs.Nodes.{Item, Buckets}
 use Rattle.mm_btree.specs.Lists.{front, back, weave, Sorted}
 use Rattle.mm_btree.specs.Trees.{Sub, at_of, pairs_of, Stands}
 use Rattle.mm_btree.specs.Order.{item_lt, IsBelow}

@@ -1,17 +1,14 @@
 -- What is owed where a bucket is mended, and what is left, in the words of the bucket in memory.
-use Rattle.std.proofs.Common.{◌≡◌, ◌≢◌, ℕ, zero, suc, ◌+◌, ◌-◌, ◌<◌, ◌≤◌, get_or, List, [], ◌∷◌, length, map, insert, Option, Some, None, IsSome, Result, IfOk, refl, sym, ap, ◌∙◌, subst, arith}
-use Rattle.std.proofs.lemmas.List.{length-map, get_or-map, length-append}
-use Rattle.std.proofs.lemmas.Result.{IfOk-weaker}
+use Rattle.std.proofs.Common.{◌≡◌, ℕ, suc, ◌-◌, ◌<◌, ◌≤◌, get_or, List, [], ◌∷◌, length, map, Option, refl, sym, ap, ◌∙◌, subst, arith}
+use Rattle.std.proofs.lemmas.List.{length-map, get_or-map}
 use Rattle.mm_base.specs.Places.{null}
 use Rattle.mm_base.specs.declared.place.DiskLoc.{DiskLoc}
 use Rattle.mm_bucket.specs.Pairs.{Pair, Contents, blank, pair_at, child_at}
 use Rattle.mm_btree.specs.Nodes.{Item, Node, Buckets, item_of, node_of}
-use Rattle.mm_btree.specs.Trees.{Sub, at_of}
-use Rattle.mm_btree.specs.Changes.{Up, AreThere, IsSettled}
-use Rattle.mm_btree.specs.Removal.{ups, IsWritten, after_join, AreNeighbours, IsJoined, Scene, IsAbove, list_above, IsMended}
+use Rattle.mm_btree.specs.Trees.{at_of}
+use Rattle.mm_btree.specs.Removal.{IsWritten, after_join, AreNeighbours, IsJoined, Scene, IsAbove, list_above, IsMended}
 use Rattle.mm_btree.specs.declared.outcome.Outcome.{Outcome}
-use Rattle.mm_btree.specs.declared.outcome.Outcome.TheVariants.{Whole, Thin, Parted}
-use Rattle.mm_btree.specs.declared.fault.TreeFault.{TreeFault}
+use Rattle.mm_btree.specs.declared.outcome.Outcome.TheVariants.{Thin}
 use Rattle.mm_btree.proofs.Edits.{kids_none, kids_all}
 use Rattle.mm_btree.proofs.Exchanges.{child_get}
 use Rattle.mm_btree.proofs.Removals.{neighbours, two_behind, two_first, waits_behind, waits_first, AreWaiting, mended, scene_some}

@@ -1,5 +1,5 @@
 -- What is owed where the two parts of a bucket are written, and what is left.
-use Rattle.std.proofs.Common.{◌≡◌, ℕ, suc, ◌+◌, List, length, remove, drop, Some, None, sym, ap, ◌∙◌, subst}
+use Rattle.std.proofs.Common.{◌≡◌, ℕ, suc, ◌+◌, List, length, remove, Some, None, sym, ◌∙◌, subst}
 use Rattle.mm_base.specs.declared.place.DiskLoc.{DiskLoc}
 use Rattle.mm_bucket.specs.Pairs.{Contents, pair_at, IsParted}
 use Rattle.mm_bucket.specs.Rules.{children, AreAlike}

@@ -1,21 +1,20 @@
 -- A bucket that has lost a pair is written; a child that has no pairs is joined with a neighbour.
-use Rattle.std.proofs.Common.{◌≡◌, ◌≢◌, ℕ, zero, suc, ◌+◌, ◌<◌, ◌≤◌, Bool, true, false, ◌||◌, List, [], ◌∷◌, ◌++◌, length, map, take, drop, get_or, insert, remove, Option, Some, None, IsSome, refl, sym, ap, ◌∙◌, subst, arith, append_assoc}
+use Rattle.std.proofs.Common.{◌≡◌, ◌≢◌, ℕ, zero, suc, ◌<◌, ◌≤◌, Bool, true, false, ◌||◌, List, [], ◌∷◌, ◌++◌, length, map, take, drop, get_or, insert, remove, Option, Some, None, IsSome, refl, sym, ap, ◌∙◌, subst, arith, append_assoc}
 use Rattle.std.proofs.lemmas.Bool.{or_parts, false_from_ne_true}
 use Rattle.std.proofs.lemmas.List.{length-map, length-append, map-append, append-nil, take-append-drop, length-take-le, length-drop}
-use Rattle.std.proofs.Math.Seq.{drop-cons, take-suc}
+use Rattle.std.proofs.Math.Seq.{drop-cons}
 use Rattle.std.specs.List.{AllByRecursion}
-use Rattle.mm_base.specs.Places.{null}
 use Rattle.mm_base.specs.declared.place.DiskLoc.{DiskLoc}
 use Rattle.mm_btree.specs.Nodes.{Item, Node, Buckets, place_eq, put}
-use Rattle.mm_btree.specs.Lists.{front, back, weave, has, Distinct}
-use Rattle.mm_btree.specs.Trees.{Sub, at_of, pairs_of, all_places, IsOver, AreBelow, Stands, Below, Moves, Became, Pending, sub, Changed, Thinned}
+use Rattle.mm_btree.specs.Lists.{front, back, has, Distinct}
+use Rattle.mm_btree.specs.Trees.{Sub, at_of, pairs_of, all_places, IsOver, Stands, Below, Moves, Became, Pending, sub, Thinned}
 use Rattle.mm_btree.specs.Changes.{Up, AreThere, IsSettled, freed, joined_node, roots_of, between_of}
-use Rattle.mm_btree.specs.Removal.{ups, IsWritten, IsBare, IsLeft, AreNeighbours, up_at, IsJoined, with_item, without_item, after_join, Scene, IsAbove, list_above, IsMended}
+use Rattle.mm_btree.specs.Removal.{ups, IsWritten, IsLeft, AreNeighbours, up_at, IsJoined, with_item, after_join, Scene, IsAbove, list_above, IsMended}
 use Rattle.mm_btree.specs.declared.outcome.Outcome.{Outcome}
 use Rattle.mm_btree.specs.declared.outcome.Outcome.TheVariants.{Whole, Thin, Parted}
 use Rattle.mm_btree.proofs.Places.{place_eq-is, place_differ}
-use Rattle.mm_btree.proofs.ListLaws.{has-append, has-append-left, has-append-right, distinct-apart, distinct-left, distinct-right, distinct-join}
-use Rattle.mm_btree.proofs.Frames.{stands, opened, below_same, below_some, stands_same, stands_some, roots_in, all_some}
+use Rattle.mm_btree.proofs.ListLaws.{has-append, has-append-right, distinct-apart, distinct-left, distinct-right, distinct-join}
+use Rattle.mm_btree.proofs.Frames.{stands, opened, below_same, below_some, stands_same, stands_some}
 use Rattle.mm_btree.proofs.Moved.{moves_then, moves_with, moves_trans, places_at}
 use Rattle.mm_btree.proofs.Settling.{settled_one}
 use Rattle.mm_btree.proofs.Segments.{settled, changed_segment, changed_below, stays_above, kids_more, all_get, cut}

@@ -1,7 +1,6 @@
 -- What is owed on the way down to the pair that is taken out, and what is left on the way up.
-use Rattle.std.proofs.Common.{◌≡◌, ◌≢◌, ◌⊎◌, inl, inr, ℕ, zero, suc, ◌+◌, ◌-◌, ◌<◌, ◌≤◌, Bool, true, false, List, [], ◌∷◌, ◌++◌, length, map, take, drop, get_or, insert, remove, slice_get, Option, Some, None, IsSome, refl, sym, ap, ◌∙◌, subst, arith, append_assoc}
+use Rattle.std.proofs.Common.{◌≡◌, ℕ, zero, suc, ◌+◌, ◌-◌, ◌<◌, ◌≤◌, true, List, [], ◌∷◌, ◌++◌, length, map, take, drop, get_or, remove, Option, Some, None, IsSome, refl, sym, ap, ◌∙◌, subst, arith, append_assoc}
 use Rattle.std.proofs.lemmas.List.{length-map, get_or-map, append-nil, take-append-drop, length-drop}
-use Rattle.std.proofs.lemmas.Option.{get_or_from_slice_get}
 use Rattle.std.proofs.Math.Seq.{drop-cons}
 use Rattle.std.specs.List.{AllByRecursion}
 use Rattle.std.specs.declared.cmp.Ordering.{Ordering}
@@ -11,18 +10,18 @@ use Rattle.mm_base.specs.Places.{null}
 use Rattle.mm_base.specs.declared.place.DiskLoc.{DiskLoc}
 use Rattle.mm_bson.specs.Tree.{Elements}
 use Rattle.mm_bson.specs.Walk.{document_in}
-use Rattle.mm_bucket.specs.Pairs.{Pair, Contents, blank, pair_at, child_at}
+use Rattle.mm_bucket.specs.Pairs.{Pair, Contents, pair_at, child_at}
 use Rattle.mm_bucket.specs.Order.{compare_pair, Belongs, IsFoundAt}
 use Rattle.mm_btree.specs.Nodes.{Item, Node, Buckets, item_of, node_of}
 use Rattle.mm_btree.specs.Lists.{front, back, weave, Distinct, Sorted}
-use Rattle.mm_btree.specs.Trees.{Sub, at_of, pairs_of, all_places, IsOver, AreBelow, Stands, Moves, Pending}
+use Rattle.mm_btree.specs.Trees.{Sub, at_of, pairs_of, IsOver, AreBelow, Stands, Moves, Pending}
 use Rattle.mm_btree.specs.Order.{item_compare, item_lt, IsLacking}
-use Rattle.mm_btree.specs.Changes.{StandsAt, least_at}
+use Rattle.mm_btree.specs.Changes.{StandsAt}
 use Rattle.mm_btree.specs.Removal.{IsTakenOut, IsWritten, IsLeft, IsBelowRoot, Scene, IsAbove, list_above, IsMended, IsLast, IsOut, IsThere, IsGap}
 use Rattle.mm_btree.specs.declared.outcome.Outcome.{Outcome}
-use Rattle.mm_btree.proofs.ListLaws.{all-left, all-right, all-both, sorted-left, sorted-right}
+use Rattle.mm_btree.proofs.ListLaws.{all-right, all-both, sorted-right}
 use Rattle.mm_btree.proofs.Frames.{opened}
-use Rattle.mm_btree.proofs.Edits.{kids_none, kids_all, leaf_next, child_is}
+use Rattle.mm_btree.proofs.Edits.{kids_none, kids_all, leaf_next}
 use Rattle.mm_btree.proofs.Ordered.{item_total}
 use Rattle.mm_btree.proofs.InsertCalls.{deeper, bucket_is}
 use Rattle.mm_btree.proofs.Inserting.{moves_same, less_least}

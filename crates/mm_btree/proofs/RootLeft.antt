@@ -1,18 +1,16 @@
 -- What has become of the root is made a tree again.
-use Rattle.std.proofs.Common.{◌≡◌, ◌≢◌, ◌⊎◌, inl, inr, ℕ, zero, suc, ◌+◌, ◌-◌, ◌<◌, ◌≤◌, Bool, true, false, ◌||◌, List, [], ◌∷◌, ◌++◌, length, map, Option, Some, None, IsSome, cond, refl, sym, ap, ◌∙◌, subst, arith}
-use Rattle.std.proofs.lemmas.Bool.{or_parts, or_cases, or_right, false_from_ne_true, cases_Bool}
-use Rattle.std.proofs.lemmas.List.{length-map, append-nil}
-use Rattle.std.specs.List.{AllByRecursion}
+use Rattle.std.proofs.Common.{◌≡◌, ◌≢◌, ℕ, suc, ◌-◌, ◌<◌, Bool, true, false, ◌||◌, List, [], ◌∷◌, length, map, Option, Some, None, IsSome, refl, sym, ap, ◌∙◌, subst, arith}
+use Rattle.std.proofs.lemmas.Bool.{or_parts}
+use Rattle.std.proofs.lemmas.List.{append-nil}
 use Rattle.mm_base.specs.Places.{null}
 use Rattle.mm_base.specs.declared.place.DiskLoc.{DiskLoc}
-use Rattle.mm_bucket.specs.Pairs.{Contents}
-use Rattle.mm_btree.specs.Nodes.{Item, Node, Buckets, place_eq, node_of, put, with_parent}
+use Rattle.mm_btree.specs.Nodes.{Item, Node, Buckets, place_eq, put, with_parent}
 use Rattle.mm_btree.specs.Lists.{has, Distinct, Sorted, weave}
-use Rattle.mm_btree.specs.Trees.{Sub, at_of, pairs_of, all_places, IsOver, AreBelow, Stands, Moves, Became, Thinned, sub}
-use Rattle.mm_btree.specs.Changes.{Up, AreThere, StandsAt, least_at, IsTree, IsChanged, rooted_map}
-use Rattle.mm_btree.specs.Removal.{IsLeft, IsRootLeft}
+use Rattle.mm_btree.specs.Trees.{Sub, at_of, IsOver, AreBelow, Stands, Moves, Became, sub}
+use Rattle.mm_btree.specs.Changes.{Up, AreThere, least_at, IsChanged, rooted_map}
+use Rattle.mm_btree.specs.Removal.{IsRootLeft}
 use Rattle.mm_btree.specs.declared.outcome.Outcome.TheVariants.{Whole, Thin, Parted}
-use Rattle.mm_btree.proofs.Places.{place_eq-true, place_eq-is, place_differ}
+use Rattle.mm_btree.proofs.Places.{place_eq-is, place_differ}
 use Rattle.mm_btree.proofs.Frames.{all_some, roots_in, stands_adopted, stands_some}
 use Rattle.mm_btree.proofs.Moved.{moves_trans}
 use Rattle.mm_btree.proofs.InsertCalls.{deeper}

@@ -1,7 +1,6 @@
 -- The first pair of an equal key is in the child that a search chose, or at the place in the bucket, or nowhere.
 use Rattle.std.proofs.Common.{◌≡◌, ◌⊎◌, inl, inr, ℕ, zero, suc, ◌-◌, ◌<◌, ◌≤◌, Bool, true, false, List, [], ◌∷◌, ◌++◌, length, map, take, drop, get_or, slice_get, Option, Some, None, IsSome, cond, refl, sym, ap, ◌∙◌, subst, arith, append_assoc}
 use Rattle.std.specs.List.{AllByRecursion}
-use Rattle.std.specs.Cmp.{IsTotalOrder}
 use Rattle.std.specs.declared.cmp.Ordering.{Ordering}
 use Rattle.std.specs.declared.cmp.Ordering.TheVariants.{Less, Equal, Greater}
 use Rattle.std.specs.Ordering.{ordering_then, ordering_reverse, is_lt, is_eq}
@@ -19,12 +18,12 @@ use Rattle.mm_btree.specs.Lists.{front, back, weave, Sorted}
 use Rattle.mm_btree.specs.Trees.{Sub, at_of, pairs_of, IsOver}
 use Rattle.mm_btree.specs.Changes.{StandsAt}
 use Rattle.mm_btree.specs.Order.{item_lt, first_with, IsBelow, IsNotBelow, IsKeyPlace, IsFirst}
-use Rattle.mm_btree.proofs.ListLaws.{all-left, all-right, all-both, sorted-right}
+use Rattle.mm_btree.proofs.ListLaws.{all-right, all-both, sorted-right}
 use Rattle.mm_btree.proofs.Segments.{Cut}
 use Rattle.mm_btree.proofs.Inserting.{child}
 use Rattle.mm_btree.proofs.Ordered.{item_chains, all_back, sorted_weave}
 use Rattle.mm_btree.proofs.Edits.{kids_none, kids_all, child_is}
-use Rattle.mm_btree.proofs.InsertCalls.{deeper, bucket_is, lower}
+use Rattle.mm_btree.proofs.InsertCalls.{bucket_is, lower}
 
 -- ---- keys of pairs in order
 

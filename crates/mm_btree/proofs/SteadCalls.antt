@@ -1,18 +1,16 @@
 -- A pair of a subtree gives way to another: where it stands, and above.
-use Rattle.std.proofs.Common.{◌≡◌, ◌≢◌, ℕ, zero, suc, ◌+◌, ◌-◌, ◌<◌, ◌≤◌, Bool, true, false, List, [], ◌∷◌, ◌++◌, length, map, take, drop, get_or, insert, remove, Option, Some, None, IsSome, refl, sym, ap, ◌∙◌, subst, arith, append_assoc}
+use Rattle.std.proofs.Common.{◌≡◌, ◌≢◌, ℕ, zero, suc, ◌-◌, ◌<◌, ◌≤◌, List, [], ◌∷◌, ◌++◌, length, map, take, drop, get_or, insert, remove, Option, Some, None, IsSome, refl, sym, ap, ◌∙◌, subst, arith, append_assoc}
 use Rattle.std.proofs.lemmas.List.{length-map, length-append}
-use Rattle.std.specs.List.{AllByRecursion}
 use Rattle.std.specs.declared.cmp.Ordering.TheVariants.{Equal}
-use Rattle.mm_base.specs.Places.{null}
 use Rattle.mm_base.specs.declared.place.DiskLoc.{DiskLoc}
 use Rattle.mm_bson.specs.Tree.{Elements}
-use Rattle.mm_bucket.specs.Pairs.{Pair, Contents, pair_at, child_at}
+use Rattle.mm_bucket.specs.Pairs.{Contents, child_at}
 use Rattle.mm_btree.specs.Nodes.{Item, Node, Buckets, item_of, node_of}
-use Rattle.mm_btree.specs.Lists.{front, back, weave, has, Distinct, Sorted}
-use Rattle.mm_btree.specs.Trees.{Sub, at_of, pairs_of, all_places, IsOver, Stands, Below, Moves, Became, Pending}
+use Rattle.mm_btree.specs.Lists.{front, back, weave, Distinct, Sorted}
+use Rattle.mm_btree.specs.Trees.{Sub, at_of, pairs_of, IsOver, Below, Moves, Became, Pending}
 use Rattle.mm_btree.specs.Order.{item_compare, item_lt, IsLacking}
 use Rattle.mm_btree.specs.Changes.{Up, AreThere, IsSettled, StandsAt, least_at, roots_of, between_of}
-use Rattle.mm_btree.specs.Removal.{ups, exchanged, with_item, IsLeft, Scene, IsAbove, list_above, IsExchanged, IsThere, IsGap}
+use Rattle.mm_btree.specs.Removal.{ups, exchanged, with_item, IsLeft, IsAbove, list_above, IsExchanged, IsThere, IsGap}
 use Rattle.mm_btree.specs.declared.outcome.Outcome.{Outcome}
 use Rattle.mm_btree.specs.declared.outcome.Outcome.TheVariants.{Whole, Thin, Parted}
 use Rattle.mm_btree.proofs.InsertCalls.{deeper, bucket_is}
@@ -22,7 +20,7 @@ use Rattle.mm_btree.proofs.Frames.{opened}
 use Rattle.mm_btree.proofs.Segments.{settled}
 use Rattle.mm_btree.proofs.Takings.{exchanged_lacking, exchanged_parts, exchanged_mid}
 use Rattle.mm_btree.proofs.Removals.{whole_above, parts_above, parts_there, put_back, some_there}
-use Rattle.mm_btree.proofs.RemoveCalls.{Opens, open_at, open_pairs, open_cut, kid_stands, scene_of, above_of, around_lack, gap_lacks, missing_in_leaf}
+use Rattle.mm_btree.proofs.RemoveCalls.{Opens, open_at, open_pairs, open_cut, kid_stands, scene_of, above_of, around_lack, missing_in_leaf}
 
 -- ---- a pair in a woven list
 

@@ -1,11 +1,10 @@
 -- Steps of the loop that gives children another parent, and what the writing of two parts does to buckets.
 use Rattle.std.proofs.lemmas.Bool.{or_right, cases_Bool}
-use Rattle.std.proofs.Common.{◌≡◌, ◌⊎◌, inl, inr, ℕ, zero, suc, ◌+◌, ◌<◌, ◌≤◌, Bool, true, false, List, [], ◌∷◌, ◌++◌, length, take, drop, get_or, slice_get, Option, Some, None, IsSome, cond, refl, sym, ap, ◌∙◌, subst, arith}
-use Rattle.mm_base.specs.Places.{null}
+use Rattle.std.proofs.Common.{◌≡◌, ◌⊎◌, inl, inr, ℕ, zero, suc, ◌≤◌, Bool, true, false, List, [], ◌∷◌, ◌++◌, length, take, drop, slice_get, Option, Some, None, IsSome, cond, refl, sym, ap, ◌∙◌, subst, arith}
 use Rattle.mm_base.specs.declared.place.DiskLoc.{DiskLoc}
 use Rattle.mm_btree.specs.Nodes.{Item, Node, Buckets, place_eq, with_parent, put}
 use Rattle.mm_btree.specs.Lists.{has}
-use Rattle.mm_btree.specs.Changes.{Up, adopted, AreThere, parts_map, IsParted, IsSettled, IsSplit}
+use Rattle.mm_btree.specs.Changes.{adopted, AreThere, IsParted, IsSettled, IsSplit}
 use Rattle.mm_btree.proofs.Places.{place_eq-true, place_eq-is}
 use Rattle.mm_btree.proofs.ListLaws.{has-append}
 use Rattle.mm_btree.proofs.Edits.{same_node}

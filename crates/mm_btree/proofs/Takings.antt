@@ -1,5 +1,5 @@
 -- One pair is taken out of a list in order, or gives way to another.
-use Rattle.std.proofs.Common.{◌≡◌, ℕ, zero, suc, ◌<◌, ◌≤◌, Bool, true, false, not, List, [], ◌∷◌, ◌++◌, length, map, take, drop, filter, cond, Option, Some, None, refl, sym, ap, ◌∙◌, subst, arith, append_assoc}
+use Rattle.std.proofs.Common.{◌≡◌, Bool, true, false, not, List, [], ◌∷◌, ◌++◌, cond, Option, Some, None, refl, sym, ap, ◌∙◌, subst, append_assoc}
 use Rattle.std.specs.List.{AllByRecursion}
 use Rattle.std.specs.declared.cmp.Ordering.{Ordering}
 use Rattle.std.specs.declared.cmp.Ordering.TheVariants.{Less, Equal, Greater}
@@ -11,7 +11,7 @@ use Rattle.mm_btree.specs.Nodes.{Item}
 use Rattle.mm_btree.specs.Lists.{Sorted}
 use Rattle.mm_btree.specs.Order.{item_compare, item_lt, IsLacking}
 use Rattle.mm_btree.specs.Removal.{without, exchanged, IsTakenOut}
-use Rattle.mm_btree.proofs.ListLaws.{all-left, all-right, all-both, sorted-left, sorted-right}
+use Rattle.mm_btree.proofs.ListLaws.{all-left, all-right, all-both, sorted-right}
 use Rattle.mm_btree.proofs.Ordered.{item_total}
 
 -- ---- a pair that is less than another, or greater, isn't it

@@ -1,6 +1,5 @@
 -- What is owed where the root of a tree is settled, and what a removal leaves.
-use Rattle.std.proofs.Common.{◌≡◌, ◌≢◌, ℕ, zero, suc, ◌+◌, ◌-◌, ◌<◌, ◌≤◌, Bool, true, false, List, [], ◌∷◌, ◌++◌, length, map, Option, Some, None, IsSome, cond, refl, sym, ap, ◌∙◌, subst, add-one, arith}
-use Rattle.std.proofs.lemmas.List.{length-append}
+use Rattle.std.proofs.Common.{◌≡◌, ◌≢◌, ℕ, suc, ◌+◌, ◌<◌, Bool, true, false, List, [], ◌∷◌, ◌++◌, length, map, Option, Some, None, IsSome, cond, refl, sym, ap, ◌∙◌, subst, add-one, arith}
 use Rattle.mm_base.specs.Places.{null}
 use Rattle.mm_base.specs.declared.place.DiskLoc.{DiskLoc}
 use Rattle.mm_bson.specs.Tree.{Elements}
@@ -8,19 +7,18 @@ use Rattle.mm_bucket.specs.Pairs.{Pair, Contents}
 use Rattle.mm_bucket.specs.Rules.{left_of, children}
 use Rattle.mm_btree.specs.Nodes.{Item, Node, Buckets, item_of, place_eq, node_of, put}
 use Rattle.mm_btree.specs.Lists.{has, Sorted}
-use Rattle.mm_btree.specs.Trees.{Sub, Stands, Became}
+use Rattle.mm_btree.specs.Trees.{Sub}
 use Rattle.mm_btree.specs.Order.{item_lt, IsLacking}
-use Rattle.mm_btree.specs.Changes.{Up, AreThere, StandsAt, IsTree, IsChanged, rooted_map, roots_of, between_of}
-use Rattle.mm_btree.specs.Removal.{without, exchanged, IsTakenOut, ups, IsLeft, IsOut, IsExchanged, IsRootLeft}
+use Rattle.mm_btree.specs.Changes.{Up, IsTree, IsChanged}
+use Rattle.mm_btree.specs.Removal.{without, exchanged, IsTakenOut, ups, IsOut, IsExchanged, IsRootLeft}
 use Rattle.mm_btree.specs.declared.outcome.Outcome.{Outcome}
-use Rattle.mm_btree.specs.declared.outcome.Outcome.TheVariants.{Whole, Thin, Parted}
+use Rattle.mm_btree.specs.declared.outcome.Outcome.TheVariants.{Thin}
 use Rattle.mm_btree.proofs.Places.{place_differ}
-use Rattle.mm_btree.proofs.Frames.{opened, roots_in}
+use Rattle.mm_btree.proofs.Frames.{opened}
 use Rattle.mm_btree.proofs.Moved.{moves_trans}
-use Rattle.mm_btree.proofs.Edits.{kids_none, kids_all}
 use Rattle.mm_btree.proofs.Takings.{taken_sorted, taken_is, stead_is, stead_there, without_sorted}
 use Rattle.mm_btree.proofs.SteadCalls.{stead_left}
-use Rattle.mm_btree.proofs.RootLeft.{IsLone, lone, lowered, root_parted}
+use Rattle.mm_btree.proofs.RootLeft.{lone}
 
 -- ---- a root without pairs
 

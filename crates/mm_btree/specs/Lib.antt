@@ -5,3 +5,4 @@ pub mod Changes
 pub mod Order
 pub mod Listed
 pub mod Removal
+pub mod Costs

@@ -1,5 +1,5 @@
 -- What a tree lists: its pairs in order, and the records of those whose keys lie between two bounds.
-use Rattle.std.specs.Prelude.{◌≡◌, ℕ, zero, suc, ◌<◌, ◌≤◌, Bool, true, false, not, ◌&&◌, List, [], ◌∷◌, length, map, take, drop, filter, Option, Some, None}
+use Rattle.std.specs.Prelude.{◌≡◌, ℕ, zero, suc, ◌<◌, ◌≤◌, Bool, true, false, not, ◌&&◌, List, [], length, map, take, drop, filter, Option, Some, None}
 use Rattle.std.specs.Ordering.{is_lt, is_gt}
 use Rattle.std.specs.List.{AllByRecursion}
 use Rattle.mm_base.specs.declared.place.DiskLoc.{DiskLoc}

@@ -1,6 +1,6 @@
 //! A pair is put into a tree.
 
-ghost use Rattle.std.specs.Prelude.{◌≡◌, ◌∷◌, [], None, Some, IfOk, OnOk, IsErrOf, IsSome, map, length, ◌≤◌};
+ghost use Rattle.std.specs.Prelude.{◌≡◌, ◌+◌, ◌∷◌, [], None, Some, IfOk, OnOk, IsErrOf, IsSome, map, length, ◌≤◌};
 ghost use Rattle.mm_base.specs.Places.{null};
 ghost use Rattle.mm_base.specs.declared.place.DiskLoc.{DiskLoc};
 ghost use Rattle.mm_bucket.specs.Pairs.{IsKey};
@@ -10,6 +10,7 @@ ghost use Rattle.mm_btree.specs.Trees.{Sub};
 ghost use Rattle.mm_btree.specs.Lists.{ins, Sorted};
 ghost use Rattle.mm_btree.specs.Order.{item_lt, IsLacking};
 ghost use Rattle.mm_btree.specs.Changes.{IsPlace, StandsAt, IsInserted, AreThere, rooted_map, IsTree, IsChanged, root_after, height_after};
+ghost use Rattle.mm_btree.specs.Costs.{below_weighs, growing_weighs, insert_asks, insert_weighs};
 
 use crate::fault::TreeFault;
 use crate::raised::Raised;
@@ -52,6 +53,8 @@ fn insert_below<S: NodeStore>(
     ensures full { IsErrOf result TreeFault.NoSpace → S.is_full store.new }
     ensures other { IsErrOf result TreeFault.Duplicate → ⊥ }
     ensures stays { S.beside store.new ≡ S.beside store.old }
+    ensures asked { S.asked store.new ≤ S.asked store.old + (height + 1) }
+    ensures weight { S.declared store.new ≤ S.declared store.old + below_weighs height }
 {
     let bucket = store.read(at)?;
     let place = place_of(&bucket, key, rec, spec);
@@ -95,6 +98,8 @@ pub fn grow<S: NodeStore>(store: &mut S, root: DiskLoc, up: &Raised) -> Result<D
     ensures full { IsErrOf result TreeFault.NoSpace → S.is_full store.new }
     ensures other { IsErrOf result TreeFault.Duplicate → ⊥ }
     ensures stays { S.beside store.new ≡ S.beside store.old }
+    ensures asked { S.asked store.new ≤ S.asked store.old + 1 }
+    ensures weight { S.declared store.new ≤ S.declared store.old + growing_weighs }
 {
     let bucket = over(root, up);
     let place = store.add(&bucket)?;
@@ -121,6 +126,8 @@ pub fn insert_pair<S: NodeStore>(
     ensures full { IsErrOf result TreeFault.NoSpace → S.is_full store.new }
     ensures other { IsErrOf result TreeFault.Duplicate → ⊥ }
     ensures stays { S.beside store.new ≡ S.beside store.old }
+    ensures asked { S.asked store.new ≤ S.asked store.old + insert_asks height }
+    ensures weight { S.declared store.new ≤ S.declared store.old + insert_weighs height }
 {
     match insert_below(alloc, store, spec, root, height, key, rec)? {
         None => Ok(None),

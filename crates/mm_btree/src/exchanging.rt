@@ -1,6 +1,6 @@
 //! A pair of a tree gives way to another.
 
-ghost use Rattle.std.specs.Prelude.{◌≡◌, IfOk, OnOk, IsErrOf};
+ghost use Rattle.std.specs.Prelude.{◌≡◌, ◌+◌, ◌≤◌, IfOk, OnOk, IsErrOf};
 ghost use Rattle.mm_base.specs.Places.{null};
 ghost use Rattle.mm_base.specs.declared.place.DiskLoc.{DiskLoc};
 ghost use Rattle.mm_bucket.specs.Pairs.{IsKey};
@@ -8,6 +8,7 @@ ghost use Rattle.mm_btree.specs.Trees.{Sub};
 ghost use Rattle.mm_btree.specs.Order.{item_lt, IsLacking};
 ghost use Rattle.mm_btree.specs.Changes.{StandsAt};
 ghost use Rattle.mm_btree.specs.Removal.{IsExchanged};
+ghost use Rattle.mm_btree.specs.Costs.{below_weighs};
 
 use crate::carried::Carried;
 use crate::fault::TreeFault;
@@ -38,6 +39,8 @@ pub fn exchange_below<S: NodeStore>(
     ensures full { IsErrOf result TreeFault.NoSpace → S.is_full store.new }
     ensures other { IsErrOf result TreeFault.Duplicate → ⊥ }
     ensures stays { S.beside store.new ≡ S.beside store.old }
+    ensures asked { S.asked store.new ≤ S.asked store.old + (height + 1) }
+    ensures weight { S.declared store.new ≤ S.declared store.old + below_weighs height }
 {
     let bucket = store.read(at)?;
     match look_for(&bucket, key, rec, spec) {

@@ -7,6 +7,7 @@ ghost use Rattle.mm_bucket.specs.Rules.{children, AreAlike};
 ghost use Rattle.mm_btree.specs.Nodes.{Node, node_of, place_eq, put};
 ghost use Rattle.mm_btree.specs.Changes.{AreThere, IsSettled};
 ghost use Rattle.mm_btree.specs.Removal.{AreNeighbours, up_at, IsJoined};
+ghost use Rattle.mm_btree.specs.Costs.{adopting_weighs, bucket_weighs, joining_weighs};
 
 use crate::carried::Carried;
 use crate::settle::adopt;
@@ -32,6 +33,8 @@ fn part_anew<S: NodeStore>(
     ensures ok { IfOk result (λ mid. (w : Contents) → IsParted w whole rest.now → AreAlike (children w)
         → IsSettled (put (S.bucket_at store.old) right None) (S.bucket_at store.new) left (node_of w) (up_at right (Some mid))) }
     ensures stays { S.beside store.new ≡ S.beside store.old }
+    ensures asked { S.asked store.new ≡ S.asked store.old }
+    ensures weight { S.declared store.new ≤ S.declared store.old + (bucket_weighs + bucket_weighs + adopting_weighs) }
 {
     let mid = Carried::of(alloc, &whole, last)?;
     whole.remove_at(last);
@@ -64,6 +67,8 @@ fn fold<S: NodeStore>(
     ensures ok { IfOk result (λ r. IsSettled (put (S.bucket_at store.old) right None) (S.bucket_at store.new) left
         (node_of (with_pair whole place key.now rec after)) (up_at right r)) }
     ensures stays { S.beside store.new ≡ S.beside store.old }
+    ensures asked { S.asked store.new ≡ S.asked store.old }
+    ensures weight { S.declared store.new ≤ S.declared store.old + (bucket_weighs + bucket_weighs + adopting_weighs) }
 {
     let mut rest = Bucket::new(DiskLoc::NULL);
     match whole.put(place, key, rec, after, &mut rest) {
@@ -93,6 +98,8 @@ pub fn join_behind<S: NodeStore>(
     ensures ok { IfOk result (λ r. (b c : Node) → AreNeighbours (S.bucket_at store.old) left right b c → c.pairs ≡ []
         → IsJoined (S.bucket_at store.old) (S.bucket_at store.new) left right b (record { key = key.now; rec = rec }) c r) }
     ensures stays { S.beside store.new ≡ S.beside store.old }
+    ensures asked { S.asked store.new ≡ S.asked store.old }
+    ensures weight { S.declared store.new ≤ S.declared store.old + joining_weighs }
 {
     let whole = store.read(left)?;
     let thin = store.read(right)?;
@@ -125,6 +132,8 @@ pub fn join_before<S: NodeStore>(
     ensures ok { IfOk result (λ r. (b c : Node) → AreNeighbours (S.bucket_at store.old) left right b c → b.pairs ≡ []
         → IsJoined (S.bucket_at store.old) (S.bucket_at store.new) left right b (record { key = key.now; rec = rec }) c r) }
     ensures stays { S.beside store.new ≡ S.beside store.old }
+    ensures asked { S.asked store.new ≡ S.asked store.old }
+    ensures weight { S.declared store.new ≤ S.declared store.old + joining_weighs }
 {
     let thin = store.read(left)?;
     let mut whole = store.read(right)?;

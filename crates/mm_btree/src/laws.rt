@@ -1,6 +1,6 @@
 //! Laws of trees, each the contract of a function that does nothing. They hold of any buckets, wherever they lie.
 
-ghost use Rattle.std.specs.Prelude.{◌≡◌, ◌≢◌, ◌≤◌, ◌<◌, ◌++◌, ◌∷◌, [], ◌+◌, ◌^◌, ℕ, suc, List, Bool, true, Option, Some, None, length, map, insert, remove};
+ghost use Rattle.std.specs.Prelude.{◌≡◌, ◌≢◌, ◌≤◌, ◌<◌, ◌++◌, ◌∷◌, [], ◌+◌, ◌-◌, ◌^◌, ℕ, suc, List, Bool, true, Option, Some, None, length, map, insert, remove};
 ghost use Rattle.std.specs.List.{AllByRecursion};
 ghost use Rattle.mm_base.specs.Places.{null};
 ghost use Rattle.mm_base.specs.declared.place.DiskLoc.{DiskLoc};
@@ -9,7 +9,8 @@ ghost use Rattle.mm_bucket.specs.Rules.{children, AreAlike};
 ghost use Rattle.mm_btree.specs.Nodes.{Item, Node, Buckets, item_of, node_of};
 ghost use Rattle.mm_btree.specs.Lists.{has, Distinct, ins, Sorted, Chains, Told};
 ghost use Rattle.mm_btree.specs.Trees.{Sub, at_of, all_places, IsOver, Stands, Moves, Became, Pending, sub, Changed, Thinned, Beside};
-ghost use Rattle.mm_btree.specs.Changes.{Up, IsSplit, IsSettled, roots_of, between_of, IsRejoined, roots_joined, between_joined, StandsAt, rooted_map};
+ghost use Rattle.mm_btree.specs.Changes.{Up, IsSplit, IsSettled, roots_of, between_of, IsRejoined, roots_joined, between_joined, StandsAt, IsTree, rooted_map};
+ghost use Rattle.mm_btree.specs.Costs.{insert_asks, insert_weighs, may_weigh, place_weighs, remove_asks, remove_weighs, requests};
 
 /// A bucket's children go with its pairs: one is put in or taken out with its pair, and they are parted where the pairs are, the child
 /// before the pair between being the last one of the left part. What `Bucket::put` makes has one pair and one child more, the child behind
@@ -45,6 +46,31 @@ pub fn stands_elsewhere()
 /// A subtree of height h has 2 to the power of h buckets or more.
 pub fn high_trees_are_large()
     ensures { (m : Buckets) (up : DiskLoc) (h : ℕ) (s : Sub) → Stands m up 1 h s → 2 ^ h ≤ length s.places }
+{}
+
+/// A tree of height h has 2 to the power of h pairs or more, but for one.
+pub fn high_trees_have_many_pairs()
+    ensures { (lt : Item → Item → Bool) (m : Buckets) (root : DiskLoc) (h : ℕ) (s : Sub) → IsTree lt m root h s → 2 ^ h ≤ length s.pairs + 1 }
+{}
+
+/// The places that a call asks for are no more than a command may ask for that adds or takes out this one key, in trees of at most 70 levels
+/// and 34.
+pub fn asks_within_demand()
+    ensures insert { (lt : Item → Item → Bool) (m : Buckets) (root : DiskLoc) (h : ℕ) (s : Sub) → IsTree lt m root h s
+        → h ≤ 70 → insert_asks h ≤ requests 1 (length s.pairs) (length s.pairs + 1) }
+    ensures remove { (lt : Item → Item → Bool) (m : Buckets) (root : DiskLoc) (h : ℕ) (s : Sub) → IsTree lt m root h s
+        → h ≤ 34 → remove_asks h ≤ requests 1 (length s.pairs) (length s.pairs - 1) }
+    ensures make { (keys pairs : ℕ) → 1 ≤ requests keys 0 pairs }
+{}
+
+/// What a call declares weighs no more than the changes of an index may by a command that adds or takes out this one key, however high the
+/// tree is.
+pub fn weighs_within_cost()
+    ensures insert { (lt : Item → Item → Bool) (m : Buckets) (root : DiskLoc) (h : ℕ) (s : Sub) → IsTree lt m root h s
+        → insert_weighs h ≤ may_weigh (length s.places) (requests 1 (length s.pairs) (length s.pairs + 1)) }
+    ensures remove { (lt : Item → Item → Bool) (m : Buckets) (root : DiskLoc) (h : ℕ) (s : Sub) → IsTree lt m root h s
+        → remove_weighs h ≤ may_weigh (length s.places) (requests 1 (length s.pairs) (length s.pairs - 1)) }
+    ensures make { (keys pairs : ℕ) → place_weighs ≤ may_weigh 0 (requests keys 0 pairs) }
 {}
 
 /// Some neighbours below a bucket have become others: the bucket above waits for their roots and the pairs between them, and its list

@@ -14,6 +14,9 @@
 //! record of the first pair whose key is equal, and reads one path. `insert` puts a pair in its place, parting buckets up to a new root.
 //! `remove` takes a pair out, and joins a bucket that has none left with its neighbour, down to a lower root.
 //! `range` gives the records of the pairs between two bounds in their order, and `walk` those of all. `make` makes a tree without pairs.
+//!
+//! A call that changes a tree bounds how many places it asks for and how much it declares, whether it is done or gives up
+//! (`specs/Costs.antt`).
 #![tactic(auto)]
 
 mod adding;
@@ -36,8 +39,9 @@ mod whole;
 
 pub use fault::TreeFault;
 pub use laws::{
-    children_go_along, high_trees_are_large, neighbours_changed, order_is_kept, parted_is_split,
-    rejoined, rooted, settled, stands_elsewhere, thinned_then_joined,
+    asks_within_demand, children_go_along, high_trees_are_large, high_trees_have_many_pairs,
+    neighbours_changed, order_is_kept, parted_is_split, rejoined, rooted, settled,
+    stands_elsewhere, thinned_then_joined, weighs_within_cost,
 };
 pub use making::make;
 pub use ranges::{range, walk};

@@ -1,7 +1,8 @@
 //! An empty tree is made.
 
-ghost use Rattle.std.specs.Prelude.{◌≡◌, IfOk, IsErrOf};
+ghost use Rattle.std.specs.Prelude.{◌≡◌, ◌+◌, ◌≤◌, IfOk, IsErrOf};
 ghost use Rattle.mm_btree.specs.Changes.{IsMade};
+ghost use Rattle.mm_btree.specs.Costs.{place_weighs};
 
 use crate::fault::TreeFault;
 use crate::store::NodeStore;
@@ -14,6 +15,8 @@ pub fn make<S: NodeStore>(store: &mut S) -> Result<DiskLoc, TreeFault>
     ensures full { IsErrOf result TreeFault.NoSpace → S.is_full store.new }
     ensures other { IsErrOf result TreeFault.Duplicate → ⊥ }
     ensures stays { S.beside store.new ≡ S.beside store.old }
+    ensures asked { S.asked store.new ≤ S.asked store.old + 1 }
+    ensures weight { S.declared store.new ≤ S.declared store.old + place_weighs }
 {
     let root = store.add(&Bucket::new(DiskLoc::NULL))?;
     Ok(root)

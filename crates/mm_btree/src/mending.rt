@@ -1,6 +1,6 @@
 //! A bucket of which a child has lost a pair is mended.
 
-ghost use Rattle.std.specs.Prelude.{◌≡◌, ◌<◌, ◌≤◌, length, Some, IsSome, IfOk, IsErrOf};
+ghost use Rattle.std.specs.Prelude.{◌≡◌, ◌+◌, ◌<◌, ◌≤◌, length, Some, IsSome, IfOk, IsErrOf};
 ghost use Rattle.mm_base.specs.Places.{null};
 ghost use Rattle.mm_base.specs.declared.place.DiskLoc.{DiskLoc};
 ghost use Rattle.mm_bucket.specs.Rules.{children, AreAlike};
@@ -8,6 +8,7 @@ ghost use Rattle.mm_btree.specs.Nodes.{Item, node_of};
 ghost use Rattle.mm_btree.specs.Changes.{AreThere, IsSettled};
 ghost use Rattle.mm_btree.specs.Removal.{IsWritten, with_item, after_join as joined_above, Scene, IsAbove, IsMended};
 ghost use Rattle.mm_btree.specs.declared.outcome.Outcome.TheVariants.{Thin, Parted};
+ghost use Rattle.mm_btree.specs.Costs.{bucket_weighs, mending_weighs, settling_weighs};
 
 use crate::carried::Carried;
 use crate::fault::TreeFault;
@@ -30,6 +31,8 @@ pub fn write_left<S: NodeStore>(
     requires alike { AreAlike (children bucket.now) }
     ensures ok { IfOk result (IsWritten (S.bucket_at store.old) (S.bucket_at store.new) at (node_of bucket.now)) }
     ensures stays { S.beside store.new ≡ S.beside store.old }
+    ensures asked { S.asked store.new ≡ S.asked store.old }
+    ensures weight { S.declared store.new ≤ S.declared store.old + bucket_weighs }
 {
     store.write(at, bucket)?;
     if bucket.len() == 0 {
@@ -55,6 +58,8 @@ pub fn exchange<S: NodeStore>(
     ensures full { IsErrOf result TreeFault.NoSpace → S.is_full store.new }
     ensures other { IsErrOf result TreeFault.Duplicate → ⊥ }
     ensures stays { S.beside store.new ≡ S.beside store.old }
+    ensures asked { S.asked store.new ≤ S.asked store.old + 1 }
+    ensures weight { S.declared store.new ≤ S.declared store.old + settling_weighs }
 {
     let left = bucket.child(place);
     let after = bucket.child(place + 1);
@@ -81,6 +86,8 @@ fn after_join<S: NodeStore>(
     ensures full { IsErrOf result TreeFault.NoSpace → S.is_full store.new }
     ensures other { IsErrOf result TreeFault.Duplicate → ⊥ }
     ensures stays { S.beside store.new ≡ S.beside store.old }
+    ensures asked { S.asked store.new ≤ S.asked store.old + 1 }
+    ensures weight { S.declared store.new ≤ S.declared store.old + settling_weighs }
 {
     match joined {
         None => {
@@ -112,6 +119,8 @@ fn mend_behind<S: NodeStore>(
     ensures full { IsErrOf result TreeFault.NoSpace → S.is_full store.new }
     ensures other { IsErrOf result TreeFault.Duplicate → ⊥ }
     ensures stays { S.beside store.new ≡ S.beside store.old }
+    ensures asked { S.asked store.new ≤ S.asked store.old + 1 }
+    ensures weight { S.declared store.new ≤ S.declared store.old + mending_weighs }
 {
     let before = place - 1;
     let left = bucket.child(before);
@@ -140,6 +149,8 @@ fn mend_first<S: NodeStore>(
     ensures full { IsErrOf result TreeFault.NoSpace → S.is_full store.new }
     ensures other { IsErrOf result TreeFault.Duplicate → ⊥ }
     ensures stays { S.beside store.new ≡ S.beside store.old }
+    ensures asked { S.asked store.new ≤ S.asked store.old + 1 }
+    ensures weight { S.declared store.new ≤ S.declared store.old + mending_weighs }
 {
     let left = bucket.child(0);
     let right = bucket.child(1);
@@ -162,6 +173,8 @@ fn mend_parted<S: NodeStore>(
     ensures full { IsErrOf result TreeFault.NoSpace → S.is_full store.new }
     ensures other { IsErrOf result TreeFault.Duplicate → ⊥ }
     ensures stays { S.beside store.new ≡ S.beside store.old }
+    ensures asked { S.asked store.new ≤ S.asked store.old + 1 }
+    ensures weight { S.declared store.new ≤ S.declared store.old + mending_weighs }
 {
     let more = settle(
         alloc,
@@ -191,6 +204,8 @@ pub fn mend<S: NodeStore>(
     ensures full { IsErrOf result TreeFault.NoSpace → S.is_full store.new }
     ensures other { IsErrOf result TreeFault.Duplicate → ⊥ }
     ensures stays { S.beside store.new ≡ S.beside store.old }
+    ensures asked { S.asked store.new ≤ S.asked store.old + 1 }
+    ensures weight { S.declared store.new ≤ S.declared store.old + mending_weighs }
 {
     match outcome {
         Outcome::Whole => Ok(Outcome::Whole),

@@ -1,6 +1,6 @@
 //! A pair is taken out of a tree.
 
-ghost use Rattle.std.specs.Prelude.{◌≡◌, ◌<◌, length, map, None, Some, IfOk, IfErr, OnOk, IsErrOf};
+ghost use Rattle.std.specs.Prelude.{◌≡◌, ◌+◌, ◌≤◌, ◌<◌, length, map, None, Some, IfOk, IfErr, OnOk, IsErrOf};
 ghost use Rattle.mm_base.specs.Places.{null};
 ghost use Rattle.mm_base.specs.declared.place.DiskLoc.{DiskLoc};
 ghost use Rattle.mm_bucket.specs.Pairs.{IsKey};
@@ -11,6 +11,7 @@ ghost use Rattle.mm_btree.specs.Lists.{Sorted};
 ghost use Rattle.mm_btree.specs.Order.{item_lt};
 ghost use Rattle.mm_btree.specs.Changes.{StandsAt};
 ghost use Rattle.mm_btree.specs.Removal.{IsThere, IsGap, IsBelowRoot, IsLast, IsOut, IsGone};
+ghost use Rattle.mm_btree.specs.Costs.{taking_weighs};
 
 use crate::carried::Carried;
 use crate::fault::TreeFault;
@@ -45,6 +46,8 @@ fn take_last_below<S: NodeStore>(
     ensures full { IsErrOf result TreeFault.NoSpace → S.is_full store.new }
     ensures other { IsErrOf result TreeFault.Duplicate → ⊥ }
     ensures stays { S.beside store.new ≡ S.beside store.old }
+    ensures asked { S.asked store.new ≤ S.asked store.old + height }
+    ensures weight { S.declared store.new ≤ S.declared store.old + taking_weighs height }
 {
     let mut bucket = store.read(at)?;
     let pairs = bucket.len();
@@ -86,6 +89,8 @@ fn take_out<S: NodeStore>(
     ensures full { IsErrOf result TreeFault.NoSpace → S.is_full store.new }
     ensures other { IsErrOf result TreeFault.Duplicate → ⊥ }
     ensures stays { S.beside store.new ≡ S.beside store.old }
+    ensures asked { S.asked store.new ≤ S.asked store.old + height }
+    ensures weight { S.declared store.new ≤ S.declared store.old + taking_weighs height }
 {
     if height == 0 {
         bucket.remove_at(place);
@@ -123,6 +128,8 @@ pub fn remove_below<S: NodeStore>(
     ensures full { IsErrOf result TreeFault.NoSpace → S.is_full store.new }
     ensures other { IsErrOf result TreeFault.Duplicate → ⊥ }
     ensures stays { S.beside store.new ≡ S.beside store.old }
+    ensures asked { S.asked store.new ≤ S.asked store.old + height }
+    ensures weight { S.declared store.new ≤ S.declared store.old + taking_weighs height }
 {
     let bucket = store.read(at)?;
     match look_for(&bucket, key, rec, spec) {

@@ -6,6 +6,7 @@ ghost use Rattle.mm_bucket.specs.Pairs.{Contents, IsKey, with_pair, IsParted};
 ghost use Rattle.mm_bucket.specs.Rules.{children, AreAlike};
 ghost use Rattle.mm_btree.specs.Nodes.{node_of};
 ghost use Rattle.mm_btree.specs.Changes.{adopted, AreThere, IsSettled};
+ghost use Rattle.mm_btree.specs.Costs.{adopting_weighs, settling_weighs};
 
 use crate::fault::TreeFault;
 use crate::raised::Raised;
@@ -19,6 +20,8 @@ fn adopt_all<S: NodeStore>(store: &mut S, bucket: &Bucket, up: DiskLoc) -> Resul
     requires { AreThere (S.bucket_at store.old) (children bucket.now) }
     ensures ok { OnOk result ((q : DiskLoc) → S.bucket_at store.new q ≡ adopted (S.bucket_at store.old) (children bucket.now) up q) }
     ensures stays { S.beside store.new ≡ S.beside store.old }
+    ensures asked { S.asked store.new ≡ S.asked store.old }
+    ensures weight { S.declared store.new ≤ S.declared store.old + adopting_weighs }
 {
     let pairs = bucket.len();
     for place in 0..pairs + 1 {
@@ -32,6 +35,8 @@ pub fn adopt<S: NodeStore>(store: &mut S, bucket: &Bucket, up: DiskLoc) -> Resul
     requires { AreThere (S.bucket_at store.old) (node_of bucket.now).kids }
     ensures ok { OnOk result ((q : DiskLoc) → S.bucket_at store.new q ≡ adopted (S.bucket_at store.old) (node_of bucket.now).kids up q) }
     ensures stays { S.beside store.new ≡ S.beside store.old }
+    ensures asked { S.asked store.new ≡ S.asked store.old }
+    ensures weight { S.declared store.new ≤ S.declared store.old + adopting_weighs }
 {
     if bucket.next().is_null() {
         return Ok(());
@@ -55,6 +60,8 @@ fn part<S: NodeStore>(
     ensures full { IsErrOf result TreeFault.NoSpace → S.is_full store.new }
     ensures other { IsErrOf result TreeFault.Duplicate → ⊥ }
     ensures stays { S.beside store.new ≡ S.beside store.old }
+    ensures asked { S.asked store.new ≤ S.asked store.old + 1 }
+    ensures weight { S.declared store.new ≤ S.declared store.old + settling_weighs }
 {
     let key = Vec::from_slice(alloc, left.key(last))?;
     let record = left.rec(last);
@@ -86,6 +93,8 @@ pub fn settle<S: NodeStore>(
     ensures full { IsErrOf result TreeFault.NoSpace → S.is_full store.new }
     ensures other { IsErrOf result TreeFault.Duplicate → ⊥ }
     ensures stays { S.beside store.new ≡ S.beside store.old }
+    ensures asked { S.asked store.new ≤ S.asked store.old + 1 }
+    ensures weight { S.declared store.new ≤ S.declared store.old + settling_weighs }
 {
     let mut right = Bucket::new(DiskLoc::NULL);
     match bucket.put(place, key, rec, after, &mut right) {

@@ -1,6 +1,6 @@
 //! Where the buckets of an index lie.
 
-ghost use Rattle.std.specs.Prelude.{◌≡◌, Option, Some, None, IsSome, IfOk, OnOk, IsErrOf};
+ghost use Rattle.std.specs.Prelude.{◌≡◌, ℕ, ◌+◌, ◌≤◌, Option, Some, None, IsSome, IfOk, OnOk, IsErrOf};
 ghost use Rattle.mm_base.specs.Places.{null};
 ghost use Rattle.mm_base.specs.declared.place.DiskLoc.{DiskLoc as Place};
 ghost use Rattle.mm_bucket.specs.Rules.{children, AreAlike};
@@ -24,6 +24,12 @@ pub trait NodeStore {
 
     ghost beside: { Self → Self.Beside };
 
+    /// How many places were asked for so far, one that was refused included.
+    ghost asked: { Self → ℕ };
+
+    /// How much the changes weigh so far: a range its length and 12 (an upper bound).
+    ghost declared: { Self → ℕ };
+
     /// The bucket at a place that has one.
     fn read(&self, at: DiskLoc) -> Result<Bucket, NoMemory>
         requires { IsSome (bucket_at self.now at) }
@@ -36,13 +42,17 @@ pub trait NodeStore {
         requires there { IsSome (bucket_at self.old at) }
         requires alike { AreAlike (children bucket.now) }
         ensures same { OnOk result ((q : Place) → bucket_at self.new q ≡ put (bucket_at self.old) at (Some (node_of bucket.now)) q) }
-        ensures stays { beside self.new ≡ beside self.old };
+        ensures stays { beside self.new ≡ beside self.old }
+        ensures asked { asked self.new ≡ asked self.old }
+        ensures weight { declared self.new ≤ declared self.old + 8204 };
 
     /// Writes the parent of the bucket that is there, these bytes alone.
     fn set_parent(&mut self, at: DiskLoc, up: DiskLoc) -> Result<(), NoMemory>
         requires { IsSome (bucket_at self.old at) }
         ensures same { OnOk result ((q : Place) → bucket_at self.new q ≡ put (bucket_at self.old) at (with_parent up (bucket_at self.old at)) q) }
-        ensures stays { beside self.new ≡ beside self.old };
+        ensures stays { beside self.new ≡ beside self.old }
+        ensures asked { asked self.new ≡ asked self.old }
+        ensures weight { declared self.new ≤ declared self.old + 20 };
 
     /// Takes a place that no bucket has, and writes a bucket there.
     fn add(&mut self, bucket: &Bucket) -> Result<DiskLoc, TreeFault>
@@ -52,11 +62,15 @@ pub trait NodeStore {
         ensures same { IfOk result (λ at. (q : Place) → bucket_at self.new q ≡ put (bucket_at self.old) at (Some (node_of bucket.now)) q) }
         ensures full { IsErrOf result TreeFault.NoSpace → is_full self.new }
         ensures other { IsErrOf result TreeFault.Duplicate → ⊥ }
-        ensures stays { beside self.new ≡ beside self.old };
+        ensures stays { beside self.new ≡ beside self.old }
+        ensures asked { asked self.new ≡ asked self.old + 1 }
+        ensures weight { declared self.new ≤ declared self.old + 10704 };
 
     /// Gives the place of a bucket back.
     fn free(&mut self, at: DiskLoc) -> Result<(), NoMemory>
         requires { IsSome (bucket_at self.old at) }
         ensures same { OnOk result ((q : Place) → bucket_at self.new q ≡ put (bucket_at self.old) at None q) }
-        ensures stays { beside self.new ≡ beside self.old };
+        ensures stays { beside self.new ≡ beside self.old }
+        ensures asked { asked self.new ≡ asked self.old }
+        ensures weight { declared self.new ≤ declared self.old + 912 };
 }

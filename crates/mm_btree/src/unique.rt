@@ -1,12 +1,13 @@
 //! A pair is put into an index that may be unique.
 
-ghost use Rattle.std.specs.Prelude.{◌≡◌, ◌↔◌, IsTrue, IsSome, IfOk, IsErrOf, OnOk};
+ghost use Rattle.std.specs.Prelude.{◌≡◌, ◌+◌, ◌≤◌, ◌↔◌, IsTrue, IsSome, IfOk, IsErrOf, OnOk};
 ghost use Rattle.mm_bson.specs.Walk.{document_in};
 ghost use Rattle.mm_bucket.specs.Pairs.{IsKey};
 ghost use Rattle.mm_btree.specs.Trees.{Sub};
 ghost use Rattle.mm_btree.specs.Lists.{ins};
 ghost use Rattle.mm_btree.specs.Order.{item_lt, IsLacking, first_with};
 ghost use Rattle.mm_btree.specs.Changes.{IsTree, IsChanged, root_after, height_after};
+ghost use Rattle.mm_btree.specs.Costs.{insert_asks, insert_weighs};
 
 use crate::adding::insert_pair;
 use crate::fault::TreeFault;
@@ -85,6 +86,8 @@ pub fn insert<S: NodeStore>(
     ensures kept { IsErrOf result TreeFault.Duplicate → store.new ≡ store.old }
     ensures full { IsErrOf result TreeFault.NoSpace → S.is_full store.new }
     ensures stays { S.beside store.new ≡ S.beside store.old }
+    ensures asked { S.asked store.new ≤ S.asked store.old + insert_asks height }
+    ensures weight { S.declared store.new ≤ S.declared store.old + insert_weighs height }
 {
     if is_taken(store, spec, root, height, key, unique)? {
         return Err(TreeFault::Duplicate);

@@ -11,6 +11,7 @@ ghost use Rattle.mm_btree.specs.Order.{item_lt, IsLacking};
 ghost use Rattle.mm_btree.specs.Changes.{IsTree, IsChanged};
 ghost use Rattle.mm_btree.specs.Removal.{without, exchanged, IsRootLeft, IsTurned};
 ghost use Rattle.mm_btree.specs.declared.outcome.Outcome.TheVariants.{Thin};
+ghost use Rattle.mm_btree.specs.Costs.{freeing_weighs, growing_weighs, insert_asks, insert_weighs, parent_weighs, remove_asks, remove_weighs};
 
 use crate::adding::grow;
 use crate::carried::Carried;
@@ -38,6 +39,8 @@ fn lower<S: NodeStore>(store: &mut S, root: DiskLoc, height: u32) -> Result<Root
         → (t : Sub) × IsChanged lt m (S.bucket_at store.new) r.place r.height s list t) }
     ensures low { IfOk result (λ r. r.height ≤ height) }
     ensures stays { S.beside store.new ≡ S.beside store.old }
+    ensures asked { S.asked store.new ≡ S.asked store.old }
+    ensures weight { S.declared store.new ≤ S.declared store.old + (freeing_weighs + parent_weighs) }
 {
     let bucket = store.read(root)?;
     let kid = bucket.next();
@@ -65,6 +68,8 @@ fn settle_root<S: NodeStore>(
     ensures full { IsErrOf result TreeFault.NoSpace → S.is_full store.new }
     ensures other { IsErrOf result TreeFault.Duplicate → ⊥ }
     ensures stays { S.beside store.new ≡ S.beside store.old }
+    ensures asked { S.asked store.new ≤ S.asked store.old + 1 }
+    ensures weight { S.declared store.new ≤ S.declared store.old + growing_weighs }
 {
     match outcome {
         Outcome::Whole => Ok(Root {
@@ -110,6 +115,8 @@ fn exchange_pair<S: NodeStore>(
     ensures full { IsErrOf result TreeFault.NoSpace → S.is_full store.new }
     ensures other { IsErrOf result TreeFault.Duplicate → ⊥ }
     ensures stays { S.beside store.new ≡ S.beside store.old }
+    ensures asked { S.asked store.new ≤ S.asked store.old + insert_asks root.height }
+    ensures weight { S.declared store.new ≤ S.declared store.old + insert_weighs root.height }
 {
     match exchange_below(alloc, store, spec, root.place, root.height, key, rec, new)? {
         None => Ok(root),
@@ -141,6 +148,8 @@ fn stand_in<S: NodeStore>(
     ensures full { IsErrOf result TreeFault.NoSpace → S.is_full store.new }
     ensures other { IsErrOf result TreeFault.Duplicate → ⊥ }
     ensures stays { S.beside store.new ≡ S.beside store.old }
+    ensures asked { S.asked store.new ≤ S.asked store.old + insert_asks root.height }
+    ensures weight { S.declared store.new ≤ S.declared store.old + insert_weighs root.height }
 {
     match instead {
         None => Ok(root),
@@ -173,6 +182,8 @@ pub fn remove<S: NodeStore>(
     ensures full { IsErrOf result TreeFault.NoSpace → S.is_full store.new }
     ensures other { IsErrOf result TreeFault.Duplicate → ⊥ }
     ensures stays { S.beside store.new ≡ S.beside store.old }
+    ensures asked { S.asked store.new ≤ S.asked store.old + remove_asks height }
+    ensures weight { S.declared store.new ≤ S.declared store.old + remove_weighs height }
 {
     match remove_below(alloc, store, spec, root, height, key, rec)? {
         None => Ok(None),

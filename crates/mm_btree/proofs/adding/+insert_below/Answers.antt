@@ -1,4 +1,4 @@
-use Rattle.std.proofs.Common.{IfOk, refl, ◌≡◌, ◌<◌, ◌-◌, suc, [], List, insert, None, Some, Option, arith, subst, sym, ap, ◌∙◌}
+use Rattle.std.proofs.Common.{IfOk, refl, ◌≡◌, ◌<◌, ◌-◌, suc, insert, Option, arith, subst, sym, ap, ◌∙◌}
 use Rattle.mm_base.specs.declared.place.DiskLoc.{DiskLoc}
 use Rattle.mm_base.specs.Places.{null}
 use Rattle.mm_base.proofs.PlaceLaws.{place_same}

@@ -1,7 +1,4 @@
-use Rattle.std.proofs.Common.{◌≡◌, List, [], ◌∷◌, Option, Some, cond, sym, ap, ◌∙◌, subst}
-use Rattle.mm_base.specs.Places.{null}
-use Rattle.mm_base.specs.declared.place.DiskLoc.{DiskLoc}
-use Rattle.mm_btree.specs.Nodes.{Node, node_of}
+use Rattle.mm_btree.specs.Nodes.{node_of}
 use Rattle.mm_btree.proofs.RootCalls.{root_ready, root_done}
 use Rattle.mm_btree.proofs.adding.grow.Goals as goal
 

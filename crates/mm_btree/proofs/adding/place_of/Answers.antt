@@ -1,6 +1,5 @@
 use Rattle.std.proofs.Common.{◌≡◌, subst, arith}
 use Rattle.std.specs.declared.cmp.Ordering.TheVariants.{Equal}
-use Rattle.mm_base.specs.declared.place.DiskLoc.{DiskLoc}
 use Rattle.mm_bson.specs.Tree.{Elements}
 use Rattle.mm_bson.specs.Walk.{document_in}
 use Rattle.mm_bson.proofs.Walks.{document_held}

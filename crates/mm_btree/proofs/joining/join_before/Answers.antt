@@ -1,4 +1,4 @@
-use Rattle.std.proofs.Common.{◌≡◌, [], Option, None, IsSome}
+use Rattle.std.proofs.Common.{◌≡◌, [], None}
 use Rattle.std.proofs.lemmas.Result.{IfOk-weaker}
 use Rattle.mm_bucket.specs.Pairs.{with_pair}
 use Rattle.mm_btree.specs.Nodes.{Item, Node, node_of, put}

@@ -1,5 +1,4 @@
-use Rattle.std.proofs.Common.{◌≡◌, Some, None, IsSome, refl, sym, ap, ◌∙◌, subst}
-use Rattle.mm_base.specs.declared.place.DiskLoc.{DiskLoc}
+use Rattle.std.proofs.Common.{Some, None, IsSome, refl, sym, ap, ◌∙◌, subst}
 use Rattle.mm_btree.specs.Nodes.{Item, node_of, put}
 use Rattle.mm_btree.proofs.Places.{place_eq-is}
 use Rattle.mm_btree.proofs.Steps.{put_there}

@@ -1,4 +1,4 @@
-use Rattle.std.proofs.Common.{◌≡◌, [], inl, refl, sym, ap, ◌∙◌, subst}
+use Rattle.std.proofs.Common.{[], inl, refl, sym, ap, ◌∙◌, subst}
 use Rattle.mm_base.specs.Places.{null}
 use Rattle.mm_base.specs.declared.place.DiskLoc.{DiskLoc}
 use Rattle.mm_base.proofs.PlaceLaws.{place_same}

@@ -1,11 +1,10 @@
-use Rattle.std.proofs.Common.{◌≡◌, ◌≤◌, ◌<◌, Option, Some, None, List, length, insert, remove, map, sym, ap, ◌∙◌, subst, arith}
-use Rattle.std.proofs.lemmas.List.{length-map, length-append}
-use Rattle.mm_base.specs.declared.place.DiskLoc.{DiskLoc}
+use Rattle.std.proofs.Common.{◌≡◌, sym, ap, ◌∙◌, subst, arith}
+use Rattle.std.proofs.lemmas.List.{length-map}
 use Rattle.mm_bucket.specs.Pairs.{Contents}
 use Rattle.mm_bucket.specs.Rules.{children, AreAlike}
-use Rattle.mm_btree.specs.Nodes.{Item, Node, item_of, node_of}
-use Rattle.mm_btree.specs.Removal.{IsWritten, with_item, without_item, after_join}
-use Rattle.mm_btree.proofs.Exchanges.{closed, closed_is, closed_inside, closed_alike, closed_node}
+use Rattle.mm_btree.specs.Nodes.{Node, item_of, node_of}
+use Rattle.mm_btree.specs.Removal.{IsWritten, with_item, after_join}
+use Rattle.mm_btree.proofs.Exchanges.{closed_is, closed_inside, closed_alike, closed_node}
 use Rattle.mm_btree.proofs.Removals.{written_of, with_item_some}
 use Rattle.mm_btree.proofs.mending.after_join.Goals as goal
 

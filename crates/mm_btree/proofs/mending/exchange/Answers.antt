@@ -1,7 +1,6 @@
-use Rattle.std.proofs.Common.{◌≡◌, ◌+◌, ◌≤◌, List, length, sym, ap, ◌∙◌, subst, arith}
+use Rattle.std.proofs.Common.{◌≡◌, ◌≤◌, length, sym, ap, ◌∙◌, subst}
 use Rattle.std.proofs.lemmas.Result.{IfOk-weaker}
-use Rattle.mm_base.specs.declared.place.DiskLoc.{DiskLoc}
-use Rattle.mm_bucket.specs.Pairs.{Contents, child_at, with_child, with_pair}
+use Rattle.mm_bucket.specs.Pairs.{Contents, child_at, with_pair}
 use Rattle.mm_bucket.specs.Rules.{children, AreAlike}
 use Rattle.mm_btree.specs.Nodes.{Item, Node, node_of}
 use Rattle.mm_btree.specs.Changes.{AreThere, IsSettled}

@@ -1,9 +1,9 @@
-use Rattle.std.proofs.Common.{◌≡◌, ◌≤◌, ℕ, sym, ap, ◌∙◌, subst, arith}
+use Rattle.std.proofs.Common.{ℕ, sym, subst}
 use Rattle.std.proofs.lemmas.Result.{IfOk-weaker}
 use Rattle.mm_btree.specs.Nodes.{node_of}
 use Rattle.mm_btree.specs.Removal.{Scene, IsAbove, IsMended}
 use Rattle.mm_btree.specs.declared.outcome.Outcome.{Outcome}
-use Rattle.mm_btree.specs.declared.outcome.Outcome.TheVariants.{Whole, Thin, Parted}
+use Rattle.mm_btree.specs.declared.outcome.Outcome.TheVariants.{Thin}
 use Rattle.mm_btree.proofs.Removals.{whole_above}
 use Rattle.mm_btree.proofs.mending.mend.Goals as goal
 

@@ -1,8 +1,7 @@
-use Rattle.std.proofs.Common.{◌≡◌, ◌-◌, ◌<◌, ◌≤◌, length, Option, Some, IsSome, sym, ap, ◌∙◌, subst, arith}
+use Rattle.std.proofs.Common.{◌≡◌, ◌-◌, arith}
 use Rattle.std.proofs.lemmas.Result.{IfOk-weaker}
-use Rattle.mm_base.specs.declared.place.DiskLoc.{DiskLoc}
 use Rattle.mm_bucket.specs.Pairs.{pair_at}
-use Rattle.mm_btree.specs.Nodes.{Item, Node, item_of, node_of}
+use Rattle.mm_btree.specs.Nodes.{Item, item_of, node_of}
 use Rattle.mm_btree.specs.Removal.{IsWritten, after_join, Scene, IsAbove, IsMended, list_above}
 use Rattle.mm_btree.specs.declared.outcome.Outcome.TheVariants.{Thin}
 use Rattle.mm_btree.proofs.Removals.{waits_there, waits_kids}

@@ -1,10 +1,8 @@
-use Rattle.std.proofs.Common.{◌≡◌, ◌≤◌, suc, List, length, insert, take, drop, ◌∷◌, Option, sym, ap, ◌∙◌, subst, arith}
-use Rattle.std.proofs.lemmas.List.{length-append, length-map}
+use Rattle.std.proofs.Common.{◌≡◌, suc, insert, take, drop, ◌∷◌, sym, ap, ◌∙◌, subst, arith}
+use Rattle.std.proofs.lemmas.List.{length-append}
 use Rattle.mm_base.specs.declared.place.DiskLoc.{DiskLoc}
-use Rattle.mm_bucket.specs.Pairs.{with_pair}
-use Rattle.mm_btree.specs.Nodes.{Item, Node, item_of, node_of}
+use Rattle.mm_btree.specs.Nodes.{Item, Node, node_of}
 use Rattle.mm_btree.specs.Changes.{AreThere, IsSettled}
-use Rattle.mm_btree.specs.Removal.{IsWritten, Scene, IsAbove, IsMended}
 use Rattle.mm_btree.specs.declared.outcome.Outcome.TheVariants.{Parted}
 use Rattle.mm_btree.proofs.Edits.{inner_alike, inner_kids, inner_put}
 use Rattle.mm_btree.proofs.Removals.{parts_there, parts_mended, written_of}

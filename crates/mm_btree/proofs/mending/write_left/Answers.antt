@@ -1,4 +1,4 @@
-use Rattle.std.proofs.Common.{◌≡◌, List, [], ◌≤◌, length, map, arith}
+use Rattle.std.proofs.Common.{arith}
 use Rattle.std.proofs.lemmas.List.{length-map}
 use Rattle.mm_btree.specs.Nodes.{item_of}
 use Rattle.mm_btree.proofs.MendCalls.{no_items}

@@ -1,8 +1,6 @@
-use Rattle.std.proofs.Common.{◌≡◌, ◌++◌, ◌<◌, ◌≤◌, ◌-◌, ◌+◌, List, [], ◌∷◌, length, map, take, drop, Some, sym, ap, ◌∙◌, subst, arith}
+use Rattle.std.proofs.Common.{◌≡◌, ◌++◌, ◌<◌, ◌≤◌, ◌-◌, ◌+◌, [], ◌∷◌, length, map, take, drop, sym, ap, ◌∙◌, arith}
 use Rattle.std.proofs.lemmas.Result.{on_ok_weaker}
 use Rattle.std.proofs.lemmas.List.{append-nil, length-map}
-use Rattle.mm_base.specs.declared.place.DiskLoc.{DiskLoc}
-use Rattle.mm_bucket.specs.Pairs.{pair_at, child_at}
 use Rattle.mm_btree.specs.Nodes.{item_of, node_of}
 use Rattle.mm_btree.specs.Listed.{listed, between, rec_of}
 use Rattle.mm_btree.proofs.Searched.{read_some, read_sorted, kid_found, kid_there}

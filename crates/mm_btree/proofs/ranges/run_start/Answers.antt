@@ -1,7 +1,7 @@
-use Rattle.std.proofs.Common.{◌≡◌, Option, Some, sym, subst}
+use Rattle.std.proofs.Common.{Option, Some, sym, subst}
 use Rattle.mm_bson.specs.Tree.{Elements}
 use Rattle.mm_btree.specs.Listed.{IsStart}
-use Rattle.mm_btree.proofs.Ranged.{starts_at, starts_open}
+use Rattle.mm_btree.proofs.Ranged.{starts_at}
 use Rattle.mm_btree.proofs.ranges.run_start.Goals as goal
 
 pub returns-in-Some : goal.returns-in-Some

@@ -1,9 +1,9 @@
-use Rattle.std.proofs.Common.{◌≡◌, ◌++◌, None, map, sym, ap, ◌∙◌}
+use Rattle.std.proofs.Common.{◌≡◌, ◌++◌, None, ap, ◌∙◌}
 use Rattle.std.proofs.lemmas.Result.{on_ok_weaker}
 use Rattle.mm_btree.specs.Trees.{Sub}
 use Rattle.mm_btree.specs.Changes.{IsTree}
 use Rattle.mm_btree.specs.Order.{item_lt}
-use Rattle.mm_btree.specs.Listed.{between, rec_of}
+use Rattle.mm_btree.specs.Listed.{between}
 use Rattle.mm_btree.proofs.Listing.{all_listed}
 use Rattle.mm_btree.proofs.ranges.walk.Goals as goal
 

@@ -1,7 +1,4 @@
-use Rattle.std.proofs.Common.{◌≡◌, ◌+◌, ◌-◌, ◌<◌, ◌≤◌, length, sym, ap, ◌∙◌, subst, arith}
-use Rattle.mm_base.specs.declared.place.DiskLoc.{DiskLoc}
-use Rattle.mm_btree.specs.Nodes.{node_of}
-use Rattle.mm_btree.specs.Removal.{IsLast}
+use Rattle.std.proofs.Common.{◌≡◌, ◌+◌, ◌-◌, ◌<◌, ◌≤◌, length, arith}
 use Rattle.mm_btree.proofs.Exchanges.{removed_alike}
 use Rattle.mm_btree.proofs.RemoveCalls.{below_some, below_pair, last_of_leaf, last_above, last_kid, last_scene}
 use Rattle.mm_btree.proofs.removing.+take_last_below.Goals as goal

@@ -1,6 +1,4 @@
-use Rattle.std.proofs.Common.{◌≡◌, ◌+◌, ◌-◌, ◌<◌, ◌≤◌, length, Some, IsSome, refl, sym, ap, ◌∙◌, subst, arith}
-use Rattle.mm_base.specs.declared.place.DiskLoc.{DiskLoc}
-use Rattle.mm_btree.specs.Nodes.{node_of}
+use Rattle.std.proofs.Common.{◌<◌, ◌≤◌, length, IsSome, refl, sym, subst, arith}
 use Rattle.mm_btree.proofs.Exchanges.{removed_alike}
 use Rattle.mm_btree.proofs.RemoveCalls.{out_of_leaf, out_above, out_kid, out_scene}
 use Rattle.mm_btree.proofs.removing.take_out.Goals as goal

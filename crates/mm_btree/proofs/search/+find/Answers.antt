@@ -1,4 +1,4 @@
-use Rattle.std.proofs.Common.{◌≡◌, ◌<◌, ◌-◌, None, Some, Option, arith, subst, sym}
+use Rattle.std.proofs.Common.{◌<◌, ◌-◌, Option, arith, subst}
 use Rattle.mm_base.specs.declared.place.DiskLoc.{DiskLoc}
 use Rattle.mm_btree.specs.Nodes.{node_of}
 use Rattle.mm_btree.specs.Order.{IsFirst}

@@ -1,11 +1,4 @@
-use Rattle.std.proofs.Common.{◌≡◌, ℕ, ◌+◌, ◌-◌, ◌/◌, ◌<◌, ◌≤◌, length, sym, ◌∙◌, subst, arith}
-use Rattle.std.specs.declared.cmp.Ordering.{Ordering}
-use Rattle.std.specs.declared.cmp.Ordering.TheVariants.{Less, Equal, Greater}
-use Rattle.mm_bson.specs.Tree.{Elements}
-use Rattle.mm_bucket.specs.Pairs.{Pair, pair_at}
-use Rattle.mm_btree.specs.Nodes.{item_of}
-use Rattle.mm_btree.specs.Lists.{Sorted}
-use Rattle.mm_btree.specs.Order.{IsBelow, IsNotBelow}
+use Rattle.std.proofs.Common.{◌+◌, ◌-◌, ◌/◌, ◌<◌, ◌≤◌, sym, arith}
 use Rattle.mm_btree.proofs.Searched.{less_before, not_less_from, key_place}
 use Rattle.mm_btree.proofs.search.first_not_less.Goals as goal
 

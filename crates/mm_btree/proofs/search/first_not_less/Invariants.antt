@@ -1,4 +1,4 @@
-use Rattle.std.proofs.Common.{◌≡◌, ℕ, ◌<◌, ◌≤◌, ◌-◌, length}
+use Rattle.std.proofs.Common.{ℕ, ◌<◌, ◌≤◌, ◌-◌, length}
 use Rattle.mm_bucket.specs.Pairs.{pair_at}
 use Rattle.mm_btree.specs.Nodes.{item_of}
 use Rattle.mm_btree.specs.Order.{IsBelow, IsNotBelow}

@@ -2,7 +2,6 @@ use Rattle.std.specs.Prelude.{◌≡◌, Bool, false, IsTrue, OnOk}
 use Rattle.std.proofs.Common.{List, sym, ◌∙◌, subst}
 use Rattle.mm_base.specs.Places.{null}
 use Rattle.mm_base.specs.declared.place.DiskLoc.{DiskLoc}
-use Rattle.mm_bucket.specs.Pairs.{Contents}
 use Rattle.mm_btree.specs.Changes.{adopted, AreThere}
 use Rattle.mm_btree.specs.Nodes.{node_of}
 use Rattle.mm_btree.proofs.Edits.{kids_none, kids_all}

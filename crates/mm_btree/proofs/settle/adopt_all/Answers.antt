@@ -1,5 +1,4 @@
-use Rattle.std.proofs.Common.{◌≡◌, Some, ◌≤◌, length, take, ap, sym, ◌∙◌, add-one, arith}
-use Rattle.mm_base.specs.declared.place.DiskLoc.{DiskLoc}
+use Rattle.std.proofs.Common.{Some, ◌≤◌, length, take, ap, sym, ◌∙◌, add-one, arith}
 use Rattle.mm_bucket.specs.Rules.{children}
 use Rattle.mm_btree.specs.Changes.{adopted}
 use Rattle.mm_btree.proofs.Steps.{adopted_more, still_there, has_at, take_more, take_whole}
@@ -27,6 +26,8 @@ loop-place-preserved g c =
       adopted = λ q. adopted_more m (node c.loop-place.store) (node c.set_parent.new.self) (take i (children b)) c.args.up c.child.result c.loop-place.invariant.adopted c.in_ok-set_parent.ensures.same q
           ∙ ap (λ xs. adopted m xs c.args.up q) (sym (take_more (children b) i c.child.result at) ∙ ap (λ n. take n (children b)) (sym (add-one i)));
       stays = c.in_ok-set_parent.ensures.stays ∙ c.loop-place.invariant.stays;
+      asked = c.in_ok-set_parent.ensures.asked ∙ c.loop-place.invariant.asked;
+      weight = omega (arith, c.in_ok-set_parent.ensures.weight, c.loop-place.invariant.weight);
     }
 
 pub returns-clause-ok : goal.returns-clause-ok

@@ -1,5 +1,4 @@
-use Rattle.std.proofs.Common.{◌≡◌, Some, sym, ap, ◌∙◌, subst}
-use Rattle.mm_base.specs.declared.place.DiskLoc.{DiskLoc}
+use Rattle.std.proofs.Common.{Some, sym, ap, ◌∙◌, subst}
 use Rattle.mm_bucket.specs.Pairs.{Contents, with_pair}
 use Rattle.mm_bucket.specs.Rules.{children, AreAlike}
 use Rattle.mm_btree.specs.Nodes.{node_of, put}

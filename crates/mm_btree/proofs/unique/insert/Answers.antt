@@ -1,4 +1,3 @@
-use Rattle.std.proofs.Common.{◌≡◌, refl}
 use Rattle.mm_btree.proofs.unique.insert.Goals as goal
 
 pub is_taken-requires-clause-tree : goal.is_taken-requires-clause-tree

@@ -1,9 +1,8 @@
-use Rattle.std.proofs.Common.{◌≡◌, ◌+◌, Option, Some, None, List, refl, sym, ap, ◌∙◌, subst, arith}
+use Rattle.std.proofs.Common.{refl, subst}
 use Rattle.mm_base.specs.Places.{null}
-use Rattle.mm_base.specs.declared.place.DiskLoc.{DiskLoc}
 use Rattle.mm_btree.specs.Nodes.{Item}
 use Rattle.mm_btree.specs.Trees.{Sub}
-use Rattle.mm_btree.specs.Changes.{IsTree, IsChanged}
+use Rattle.mm_btree.specs.Changes.{IsChanged}
 use Rattle.mm_btree.specs.Order.{item_lt}
 use Rattle.mm_btree.specs.Removal.{without, IsGone}
 use Rattle.mm_btree.specs.declared.whole.Root.{Root}

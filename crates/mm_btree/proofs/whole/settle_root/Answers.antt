@@ -1,7 +1,6 @@
-use Rattle.std.proofs.Common.{◌≡◌, ◌+◌, ◌<◌, sym, ap, ◌∙◌, subst, arith}
+use Rattle.std.proofs.Common.{subst}
 use Rattle.mm_btree.specs.Removal.{IsRootLeft}
 use Rattle.mm_btree.specs.declared.outcome.Outcome.{Outcome}
-use Rattle.mm_btree.specs.declared.outcome.Outcome.TheVariants.{Whole, Thin, Parted}
 use Rattle.mm_btree.proofs.RootLeft.{root_whole, root_there, root_parted, root_empty}
 use Rattle.mm_btree.proofs.WholeCalls.{higher}
 use Rattle.mm_btree.proofs.whole.settle_root.Goals as goal
