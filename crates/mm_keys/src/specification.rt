@@ -48,12 +48,10 @@ fn is_sign(value: &Value) -> bool
 fn are_signed(fields: &[Element]) -> bool
     ensures { IsTrue result ↔ AreSigned (elements_of fields.now) }
 {
-    let mut rest = fields;
-    while let [first, others @ ..] = rest {
-        if !is_sign(&first.value) {
+    for field in fields {
+        if !is_sign(&field.value) {
             return false;
         }
-        rest = others;
     }
     true
 }
@@ -61,12 +59,10 @@ fn are_signed(fields: &[Element]) -> bool
 fn has_name(fields: &[Element], name: &[u8]) -> bool
     ensures { IsTrue result ↔ IsSome (find_in name.now (elements_of fields.now)) }
 {
-    let mut rest = fields;
-    while let [first, others @ ..] = rest {
-        if first.name.as_bytes() == name {
+    for field in fields {
+        if field.name.as_bytes() == name {
             return true;
         }
-        rest = others;
     }
     false
 }
@@ -74,12 +70,10 @@ fn has_name(fields: &[Element], name: &[u8]) -> bool
 fn are_different(fields: &[Element]) -> bool
     ensures { IsTrue result ↔ AreDifferent (elements_of fields.now) }
 {
-    let mut rest = fields;
-    while let [first, others @ ..] = rest {
-        if has_name(others, first.name.as_bytes()) {
+    for i in 0..fields.len() {
+        if has_name(&fields[i + 1..], fields[i].name.as_bytes()) {
             return false;
         }
-        rest = others;
     }
     true
 }
