@@ -230,3 +230,16 @@ module _ (d : List ℕ) (image : Image) (s : Shape) (st : HasShape d image s) wh
       (subst (λ (q : List (List Place)). IsSameShape s (found_shape d image (all_found d image s st).pss q rs bs)) e1
       (subst (λ (q : List (List Place)). IsSameShape s (found_shape d image (all_found d image s st).pss chains q bs)) e2
       (subst (λ (q : List (List Place)). IsSameShape s (found_shape d image (all_found d image s st).pss chains records q)) e3 own_shape)))
+
+-- so the files have one shape alone
+pub one_shape : (d : List ℕ) (image : Image) (s t : Shape) → HasShape d image s → HasShape d image t → IsSameShape s t
+one_shape d image s t x y =
+    let c = nine d image s x in
+    let a = shape_is_found d image s x (all_found d image s x).pss _ _ _ (three d image s x) c in
+    let b = shape_is_found d image t y (all_found d image s x).pss _ _ _ (three d image s x) c in
+    record {
+      heap = λ p. sym (b.heap p) ∙ a.heap p;
+      extents = λ name. sym (b.extents name) ∙ a.extents name;
+      records = λ e. sym (b.records e) ∙ a.records e;
+      lists = λ name i. sym (b.lists name i) ∙ a.lists name i;
+    }

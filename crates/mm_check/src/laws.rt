@@ -8,7 +8,7 @@ ghost use Rattle.mm_check.specs.Findings.{Clear3, Clear9, IsClear};
 ghost use Rattle.mm_check.specs.Standing.{HasNoDot, HasShape, found_shape, IsSameShape};
 
 /// No phase up to `counts` finds anything exactly where points 1 to 5 of what stands hold of the files with some shape; and that shape is the
-/// one that the walks find. From the check to what stands it is said of databases whose name has no dot.
+/// one that the walks find, so there is one alone. From the check to what stands it is said of databases whose name has no dot.
 pub fn clear_where_some_shape_stands()
     ensures stands { (d : List ℕ) → HasNoDot d → (image : Image) → IsClear d image → (s : Shape) × HasShape d image s }
     ensures clear { (d : List ℕ) (image : Image) (s : Shape) → HasShape d image s → IsClear d image }
@@ -16,4 +16,5 @@ pub fn clear_where_some_shape_stands()
         → Clear3 d image found → Clear9 d image chains records blocks → HasShape d image (found_shape d image found chains records blocks) }
     ensures same { (d : List ℕ) (image : Image) (s : Shape) → HasShape d image s → (found chains records blocks : List (List Place))
         → Clear3 d image found → Clear9 d image chains records blocks → IsSameShape s (found_shape d image found chains records blocks) }
+    ensures one { (d : List ℕ) (image : Image) (s t : Shape) → HasShape d image s → HasShape d image t → IsSameShape s t }
 {}

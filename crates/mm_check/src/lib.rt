@@ -9,9 +9,9 @@
 //!   extents tile each file is said from the check to what stands in `AreaLaws` and `Tiled`, and the other way in `StandsFiles`.
 //! - The laws of all phases are joined in one (`clear_where_some_shape_stands`): no phase finds anything exactly where points 1 to 5 of what
 //!   stands hold with some shape (`specs/Standing.antt`), and that shape is the one that the walks find; the database's name has no dot, which
-//!   the way from what stands to the check doesn't ask. What the phases find meets the premises of
-//!   their laws (`FoundExtents`, `FoundAreas`, `FoundRecords`, `FoundHeap`, `FoundLists`, `FoundStands`), and what stands is what they find
-//!   (`StandsFiles`, `StandsChains`, `StandsBlocks`, `StandsClear`, `StandsShape`).
+//!   the way from what stands to the check doesn't ask. What the phases find meets the premises of their laws (`FoundExtents`, `FoundAreas`,
+//!   `FoundRecords`, `FoundHeap`, `FoundLists`, `FoundStands`), and what stands is what they find (`StandsFiles`, `StandsChains`,
+//!   `StandsBlocks`, `StandsClear`, `StandsShape`).
 //! - `check` answers a report exactly where no phase finds anything or no file is there, else the first finding, and no other finding is the
 //!   first. Where it reports files that are there, some shape stands, and where it has a finding, none does. `check_files` runs the phases
 //!   in a row. Each phase is a call of its own: `wrong_file`, `wrong_node` within the crate, `file_extents`, `node_extents`, `first_lost`,
