@@ -1,20 +1,28 @@
 -- What a store has done, seen on the draft that was lent to it.
-use Rattle.std.proofs.Common.{◌≡◌, ℕ, zero, suc, Bool, false, Option, None, IsSome, cond, refl, sym, ap, subst}
+use Rattle.std.proofs.Common.{◌≡◌, ℕ, zero, suc, ◌+◌, ◌*◌, ◌≤◌, Bool, false, List, Option, None, IsSome, cond, refl, sym, ap, subst, arith}
 use Rattle.std.specs.Prelude.{Result, IfOk, OnOk}
 use Rattle.std.proofs.lemmas.Result.{IfOk-weaker}
 use Rattle.mm_base.specs.Places.{null}
 use Rattle.mm_base.specs.declared.place.DiskLoc.{DiskLoc}
 use Rattle.mm_bson.specs.Tree.{Elements}
 use Rattle.mm_views.specs.State.{Drafting}
+use Rattle.mm_extents.specs.Changes.{DeclaresAtMost}
+use Rattle.mm_records.specs.Shape.{Shape}
+use Rattle.mm_records.specs.Map.{name_at}
+use Rattle.mm_records.proofs.Serving.{shorter}
 use Rattle.mm_btree.specs.Nodes.{Item, Buckets}
 use Rattle.mm_btree.specs.Trees.{Sub, Stands}
 use Rattle.mm_btree.specs.Lists.{ins}
 use Rattle.mm_btree.specs.Order.{item_lt, IsLacking}
 use Rattle.mm_btree.specs.Changes.{IsTree, IsChanged, root_after}
 use Rattle.mm_btree.specs.Removal.{without}
-use Rattle.mm_trees.specs.Buckets.{Goes, IsFull, IsScarce, bucket_in}
-use Rattle.mm_trees.specs.Kept.{Kept, IsKept, bucket_of, is_full_of, start_of}
-use Rattle.mm_trees.specs.Changes.{IsPutIn, IsTaken}
+use Rattle.mm_trees.specs.Buckets.{Holds, Goes, IsFull, IsScarce, bucket_in}
+use Rattle.mm_trees.specs.Costs.{most_places}
+use Rattle.mm_trees.specs.Kept.{Kept, IsKept, bucket_of, is_full_of, asked_of, weight_of, start_of}
+use Rattle.mm_trees.specs.Changes.{OfHeight, IsPutIn, IsTaken}
+use Rattle.mm_trees.proofs.Steps.{goes_more}
+use Rattle.mm_trees.proofs.Finding.{rooted}
+use Rattle.mm_trees.proofs.Levels.{low_trees}
 use Rattle.mm_trees.proofs.Keeping.{is_whole}
 
 -- what follows of an answer
@@ -70,3 +78,23 @@ module _ (d : Drafting) (node : ℕ) (k : Kept) (b : Bool) (stays : start_of k �
 
   pub taken_whole : (spec : Elements) (root after : DiskLoc) (x : Item) (h : ℕ) (s : Sub) → IsTree (item_lt spec) (bucket_in d.image node) root h s → IsTaken spec (bucket_in d.image node) (bucket_of k) root x after → k.broken ≡ false
   taken_whole spec root after x h s t f = let y = f h s t in whole_of (item_lt spec) k after y.0 y.1.0 y.1.1.tree
+
+  -- so many places were asked for, and so much was declared, by the height of the tree
+  module _ (spec : Elements) (root : DiskLoc) (made : Kept) (e : made ≡ record { draft = d; node = node; broken = false; start = d; asked = 0 }) where
+    pub few_asked : (most : ℕ → ℕ) → OfHeight spec (bucket_of made) root (λ h. asked_of k ≤ asked_of made + most h) → (free : List ℕ) (s : Shape) → Holds d.image free s node
+        → (h : ℕ) (u : Sub) → IsTree (item_lt spec) (bucket_in d.image node) root h u → ((n : ℕ) → n ≤ 14 → most n ≤ most_places) → k.asked ≤ most_places
+    few_asked most f free s holds h u t le =
+        let few = subst (λ (x : Kept). OfHeight spec (bucket_of x) root (λ n. asked_of k ≤ asked_of x + most n)) e f h u t in
+        let low = le h (low_trees d.image free s node holds root h u (rooted spec (bucket_in d.image node) root h u t)) in
+        omega (arith, few, low)
+
+    pub weight_by : (most : ℕ → ℕ) → OfHeight spec (bucket_of made) root (λ h. weight_of k ≤ weight_of made + most h)
+        → (n : Drafting) → n ≡ k.draft → OfHeight spec (bucket_in d.image node) root (λ h. DeclaresAtMost (most h) d n)
+    weight_by most f n i h u t =
+        subst (λ (x : Drafting). DeclaresAtMost (most h) d x) (sym i) (subst (λ (x : Kept). OfHeight spec (bucket_of x) root (λ n. weight_of k ≤ weight_of x + most n)) e f h u t)
+
+  pub goes_few : IsKept k → k.broken ≡ false → k.asked ≤ most_places → Goes d.image k.draft.image node most_places
+  goes_few i w le = goes_more d.image k.draft.image node k.asked most_places le (goes_from i w)
+
+  pub scarce_few : is_full_of k → k.asked ≤ most_places → IsScarce d.image node most_places
+  scarce_few f le free s h b = scarce_from f free s h (shorter s (name_at d.image node) (8208 * most_places) (8208 * k.asked) (omega (arith, le)) b)

@@ -10,6 +10,10 @@ use Rattle.mm_btree.specs.Order.{item_lt, IsLacking, first_with}
 use Rattle.mm_btree.specs.Changes.{IsTree, IsChanged, root_after}
 use Rattle.mm_btree.specs.Removal.{without}
 
+-- this holds of the height of the tree at a root
+abbrev pub OfHeight : Elements → Buckets → DiskLoc → (ℕ → Type 0) → Type 0
+OfHeight spec m root P = (h : ℕ) (s : Sub) → IsTree (item_lt spec) m root h s → P h
+
 -- a tree that hasn't the pair has it
 abbrev pub IsPutIn : Elements → Buckets → Buckets → DiskLoc → Item → Option DiskLoc → Type 0
 IsPutIn spec m n root x r = (h : ℕ) (s : Sub) → IsTree (item_lt spec) m root h s → IsLacking spec x s.pairs

@@ -1,12 +1,13 @@
 //! A pair is put into a tree or taken out, whatever the tree's height.
 
-ghost use Rattle.std.specs.Prelude.{◌≡◌, ℕ, Some, None, IfOk, OnOk, IsErrOf};
+ghost use Rattle.std.specs.Prelude.{◌≡◌, ℕ, ◌+◌, ◌≤◌, Some, None, IfOk, OnOk, IsErrOf};
 ghost use Rattle.mm_base.specs.declared.place.DiskLoc.{DiskLoc as Place};
 ghost use Rattle.mm_bucket.specs.Pairs.{IsKey};
 ghost use Rattle.mm_btree.specs.Trees.{Sub};
 ghost use Rattle.mm_btree.specs.Order.{item_lt, IsLacking};
 ghost use Rattle.mm_btree.specs.Changes.{IsTree};
-ghost use Rattle.mm_trees.specs.Changes.{IsPutIn, IsTwice, IsntTwice, IsTaken, IsThere};
+ghost use Rattle.mm_btree.specs.Costs.{insert_asks, insert_weighs, remove_asks, remove_weighs};
+ghost use Rattle.mm_trees.specs.Changes.{OfHeight, IsPutIn, IsTwice, IsntTwice, IsTaken, IsThere};
 
 use crate::height::height_of;
 use mm_base::DiskLoc;
@@ -32,6 +33,8 @@ pub fn put_in<S: NodeStore>(
     ensures kept { IsErrOf result TreeFault.Duplicate → store.new ≡ store.old }
     ensures full { IsErrOf result TreeFault.NoSpace → S.is_full store.new }
     ensures stays { S.beside store.new ≡ S.beside store.old }
+    ensures asked { OfHeight spec.now (S.bucket_at store.old) root (λ h. S.asked store.new ≤ S.asked store.old + insert_asks h) }
+    ensures weight { OfHeight spec.now (S.bucket_at store.old) root (λ h. S.declared store.new ≤ S.declared store.old + insert_weighs h) }
 {
     let height = height_of(store, root)?;
     mm_btree::insert(alloc, store, spec, root, height, key, rec, unique)
@@ -54,6 +57,8 @@ pub fn take_out<S: NodeStore>(
     ensures full { IsErrOf result TreeFault.NoSpace → S.is_full store.new }
     ensures other { IsErrOf result TreeFault.Duplicate → ⊥ }
     ensures stays { S.beside store.new ≡ S.beside store.old }
+    ensures asked { OfHeight spec.now (S.bucket_at store.old) root (λ h. S.asked store.new ≤ S.asked store.old + remove_asks h) }
+    ensures weight { OfHeight spec.now (S.bucket_at store.old) root (λ h. S.declared store.new ≤ S.declared store.old + remove_weighs h) }
 {
     let height = height_of(store, root)?;
     match mm_btree::remove(alloc, store, spec, root, height, key, rec)? {

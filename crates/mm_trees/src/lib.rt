@@ -10,19 +10,24 @@
 //!   was (`GoesBeside`).
 //!
 //! A bucket is read from its record without memory, and written whole or its parent alone. A call that changes an index lends the draft to a
-//! store for its time. Not said here: how many bytes a call declares, and how many buckets it takes.
+//! store for its time, which counts the places that are asked for. An index is at most 15 levels high (`indexes_are_low`), so a call asks for 32
+//! places at the most (specs/Costs): `NoSpace` comes only where no deleted block of the node has room for so many buckets (`scarce`), and a
+//! deleted block that has room for more leaves one for what is asked later (`Serves`). What a call declares is bounded by the height of the tree
+//! (`weight`). Not said here: what is left of an extent that a call adds.
 #![tactic(auto)]
 
 mod asked;
 mod buckets;
 mod changes;
 mod height;
+mod laws;
 mod lending;
 mod roots;
 mod store;
 mod tree;
 mod view;
 
+pub use laws::indexes_are_low;
 pub use store::Store;
 pub use tree::Tree;
 pub use view::View;

@@ -4,7 +4,7 @@ ghost use Rattle.std.specs.Prelude.{◌≡◌, ℕ, List, false};
 ghost use Rattle.mm_records.specs.Shape.{Shape};
 ghost use Rattle.mm_views.specs.State.{Drafting};
 ghost use Rattle.mm_trees.specs.Buckets.{Holds};
-ghost use Rattle.mm_trees.specs.Kept.{IsKept, bucket_of, is_full_of, start_of};
+ghost use Rattle.mm_trees.specs.Kept.{IsKept, asked_of, bucket_of, is_full_of, start_of, weight_of};
 
 use crate::asked::Asked;
 use crate::buckets::{add_bucket, bucket_at, free_bucket, write_bucket, write_parent};
@@ -81,6 +81,10 @@ impl NodeStore for Store {
     ghost Beside = { Drafting × ℕ };
 
     ghost beside = { start_of };
+
+    ghost asked = { asked_of };
+
+    ghost declared = { weight_of };
 
     fn read(&self, at: DiskLoc) -> Result<Bucket, NoMemory> {
         Ok(bucket_at(&self.draft, self.node, at))

@@ -1,6 +1,6 @@
 //! The trees of indexes.
 
-ghost use Rattle.std.specs.Prelude.{◌≡◌, ℕ, ◌↔◌, ◌++◌, [], List, true, false, map, IsTrue, IsSome, IfOk, OnOk, IsErrOf};
+ghost use Rattle.std.specs.Prelude.{◌≡◌, ◌+◌, ◌↔◌, ◌++◌, [], List, true, false, map, IsTrue, IsSome, IfOk, OnOk, IsErrOf};
 ghost use Rattle.mm_bson.specs.Spelling.{spelling};
 ghost use Rattle.mm_bson.specs.Walk.{document_in};
 ghost use Rattle.mm_extents.specs.Changes.{DeclaresAtMost};
@@ -10,7 +10,9 @@ ghost use Rattle.mm_btree.specs.Lists.{ins};
 ghost use Rattle.mm_btree.specs.Order.{item_lt, IsLacking, first_with};
 ghost use Rattle.mm_btree.specs.Listed.{rec_of, between};
 ghost use Rattle.mm_btree.specs.Removal.{without};
+ghost use Rattle.mm_btree.specs.Costs.{place_weighs, insert_weighs, remove_weighs};
 ghost use Rattle.mm_trees.specs.Buckets.{IsFull, IsScarce};
+ghost use Rattle.mm_trees.specs.Costs.{most_places, naming_weighs};
 ghost use Rattle.mm_trees.specs.Roots.{root_in};
 ghost use Rattle.mm_trees.specs.Indexes.{HasIndex, IsUnmade, GoesBeside};
 
@@ -93,8 +95,9 @@ impl Tree {
         mm_btree::walk(&view, &self.spec, root, height, out)
     }
 
-    /// Makes the index: a tree without pairs, whose root the pair then names. `NoSpace` only where the node's bucket fits nowhere; after an
-    /// error the draft is to be dropped.
+    /// Makes the index: a tree without pairs, whose root the pair then names. `NoSpace` only where the node's bucket fits nowhere, and never where
+    /// the node has a deleted block for one; after an error the draft is to be dropped. It declares a bucket, what taking a place declares, and
+    /// the details.
     pub fn make(&self, draft: &mut Draft) -> Result<DiskLoc, SpaceFault>
         requires { IsUnmade draft.old.image self.now.store.node self.now.owner self.now.position }
         ensures ok { OnOk result (HasIndex draft.new.image self.now.store.node self.now.owner self.now.position self.now.spec []) }
@@ -102,7 +105,7 @@ impl Tree {
         ensures beside { OnOk result (GoesBeside draft.old.image draft.new.image self.now.store.node self.now.owner self.now.position 1) }
         ensures full { IsErrOf result SpaceFault.NoSpace → IsFull draft.old.image draft.new.image self.now.store.node }
         ensures scarce { IsErrOf result SpaceFault.NoSpace → IsScarce draft.old.image self.now.store.node 1 }
-        ensures weight { DeclaresAtMost 11212 draft.old draft.new }
+        ensures weight { DeclaresAtMost (place_weighs + naming_weighs) draft.old draft.new }
     {
         let root = add_bucket(draft, self.store.node, &Bucket::new(DiskLoc::NULL))?;
         put_root(draft, self.owner, self.position, root)?;
@@ -111,7 +114,8 @@ impl Tree {
 
     /// Puts a pair in its place. The key must have no names and at most 1024 bytes, and no pair of an equal key and this record may be there.
     /// `Duplicate` exactly where the index is unique and a pair of an equal key stands there; then nothing has changed. `NoSpace` only where a
-    /// bucket fits nowhere. After any other error the draft is to be dropped.
+    /// bucket fits nowhere, and never where the node has a deleted block for 32 buckets. After any other error the draft is to be dropped. What it
+    /// declares is bounded by the tree's height.
     pub fn insert(
         &self,
         alloc: Global,
@@ -126,7 +130,7 @@ impl Tree {
         ensures ok { OnOk result ((pairs : List Item) → HasIndex draft.old.image self.now.store.node self.now.owner self.now.position self.now.spec pairs
             → IsLacking self.now.spec (record { key = spelling key.now; rec = rec }) pairs
             → HasIndex draft.new.image self.now.store.node self.now.owner self.now.position self.now.spec (ins (item_lt self.now.spec) (record { key = spelling key.now; rec = rec }) pairs)) }
-        ensures beside { OnOk result ((places : ℕ) × GoesBeside draft.old.image draft.new.image self.now.store.node self.now.owner self.now.position places) }
+        ensures beside { OnOk result (GoesBeside draft.old.image draft.new.image self.now.store.node self.now.owner self.now.position most_places) }
 
         // An equal key is refused where the index is unique, and only that.
         ensures alone { OnOk result ((pairs : List Item) → HasIndex draft.old.image self.now.store.node self.now.owner self.now.position self.now.spec pairs
@@ -135,6 +139,9 @@ impl Tree {
             → IsTrue unique × IsSome (first_with self.now.spec (document_in (spelling key.now)) pairs) }
         ensures kept { IsErrOf result TreeFault.Duplicate → draft.new ≡ draft.old }
         ensures full { IsErrOf result TreeFault.NoSpace → IsFull draft.old.image draft.new.image self.now.store.node }
+        ensures scarce { IsErrOf result TreeFault.NoSpace → IsScarce draft.old.image self.now.store.node most_places }
+        ensures weight { (pairs : List Item) (index : HasIndex draft.old.image self.now.store.node self.now.owner self.now.position self.now.spec pairs)
+            → DeclaresAtMost (insert_weighs index.height + naming_weighs) draft.old draft.new }
     {
         let root = root_of(draft, self.owner, self.position);
         let bytes = key.bytes();
@@ -157,7 +164,8 @@ impl Tree {
     }
 
     /// Takes the pair of an equal key and this record out; false exactly where it isn't there, and then nothing has changed. `NoSpace` only where
-    /// a bucket fits nowhere: a key that takes another's place above may be the longer one. After an error the draft is to be dropped.
+    /// a bucket fits nowhere, and never where the node has a deleted block for 32 buckets: a key that takes another's place above may be the longer
+    /// one. After an error the draft is to be dropped. What it declares is bounded by the tree's height.
     pub fn remove(
         &self,
         alloc: Global,
@@ -169,11 +177,14 @@ impl Tree {
         requires index { (pairs : List Item) × HasIndex draft.old.image self.now.store.node self.now.owner self.now.position self.now.spec pairs }
         ensures out { IfOk result (λ there. there ≡ true → (pairs : List Item) → HasIndex draft.old.image self.now.store.node self.now.owner self.now.position self.now.spec pairs
             → HasIndex draft.new.image self.now.store.node self.now.owner self.now.position self.now.spec (without self.now.spec (record { key = spelling key.now; rec = rec }) pairs)) }
-        ensures beside { IfOk result (λ there. there ≡ true → (places : ℕ) × GoesBeside draft.old.image draft.new.image self.now.store.node self.now.owner self.now.position places) }
+        ensures beside { IfOk result (λ there. there ≡ true → GoesBeside draft.old.image draft.new.image self.now.store.node self.now.owner self.now.position most_places) }
         ensures there { IfOk result (λ there. (pairs : List Item) → HasIndex draft.old.image self.now.store.node self.now.owner self.now.position self.now.spec pairs
             → (there ≡ false) ↔ IsLacking self.now.spec (record { key = spelling key.now; rec = rec }) pairs) }
         ensures kept { IfOk result (λ there. there ≡ false → draft.new ≡ draft.old) }
         ensures full { IsErrOf result TreeFault.NoSpace → IsFull draft.old.image draft.new.image self.now.store.node }
+        ensures scarce { IsErrOf result TreeFault.NoSpace → IsScarce draft.old.image self.now.store.node most_places }
+        ensures weight { (pairs : List Item) (index : HasIndex draft.old.image self.now.store.node self.now.owner self.now.position self.now.spec pairs)
+            → DeclaresAtMost (remove_weighs index.height + naming_weighs) draft.old draft.new }
         ensures other { IsErrOf result TreeFault.Duplicate → ⊥ }
     {
         let root = root_of(draft, self.owner, self.position);

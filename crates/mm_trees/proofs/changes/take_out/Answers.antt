@@ -1,4 +1,4 @@
-use Rattle.std.proofs.Common.{◌≡◌, refl, sym, ◌∙◌, subst}
+use Rattle.std.proofs.Common.{◌≡◌, ℕ, ◌+◌, ◌≤◌, refl, sym, ◌∙◌, subst}
 use Rattle.mm_base.specs.declared.place.DiskLoc.{DiskLoc}
 use Rattle.mm_btree.specs.Nodes.{Item}
 use Rattle.mm_btree.specs.Trees.{Sub}
@@ -6,6 +6,7 @@ use Rattle.mm_btree.specs.Order.{item_lt}
 use Rattle.mm_btree.specs.Changes.{IsChanged}
 use Rattle.mm_btree.specs.Removal.{without}
 use Rattle.mm_trees.proofs.Finding.{rooted, at_height}
+use Rattle.mm_btree.specs.Costs.{remove_asks, remove_weighs}
 use Rattle.mm_trees.proofs.changes.take_out.Goals as goal
 
 pub height_of-requires : goal.height_of-requires
@@ -39,3 +40,33 @@ returns-in-Some-clause-there g c = λ h s t.
 
 pub returns-in-None-clause-kept : goal.returns-in-None-clause-kept
 returns-in-None-clause-kept g c = λ _. c.in_ok-remove.ensures.kept c.in-None.is
+
+pub returns-in-None-clause-asked : goal.returns-in-None-clause-asked
+returns-in-None-clause-asked g c = λ h s t.
+    subst (λ (n : ℕ). g.S.NodeStore.asked c.remove.new.store ≤ g.S.NodeStore.asked c.args.store.now + remove_asks n)
+    (c.in_ok-height.ensures.is h s (rooted c.args.spec.now (g.S.NodeStore.bucket_at c.args.store.now) c.args.root h s t)) c.remove.ensures.asked
+
+pub returns-in-None-clause-weight : goal.returns-in-None-clause-weight
+returns-in-None-clause-weight g c = λ h s t.
+    subst (λ (n : ℕ). g.S.NodeStore.declared c.remove.new.store ≤ g.S.NodeStore.declared c.args.store.now + remove_weighs n)
+    (c.in_ok-height.ensures.is h s (rooted c.args.spec.now (g.S.NodeStore.bucket_at c.args.store.now) c.args.root h s t)) c.remove.ensures.weight
+
+pub returns-in-Some-clause-asked : goal.returns-in-Some-clause-asked
+returns-in-Some-clause-asked g c = λ h s t.
+    subst (λ (n : ℕ). g.S.NodeStore.asked c.remove.new.store ≤ g.S.NodeStore.asked c.args.store.now + remove_asks n)
+    (c.in_ok-height.ensures.is h s (rooted c.args.spec.now (g.S.NodeStore.bucket_at c.args.store.now) c.args.root h s t)) c.remove.ensures.asked
+
+pub returns-in-Some-clause-weight : goal.returns-in-Some-clause-weight
+returns-in-Some-clause-weight g c = λ h s t.
+    subst (λ (n : ℕ). g.S.NodeStore.declared c.remove.new.store ≤ g.S.NodeStore.declared c.args.store.now + remove_weighs n)
+    (c.in_ok-height.ensures.is h s (rooted c.args.spec.now (g.S.NodeStore.bucket_at c.args.store.now) c.args.root h s t)) c.remove.ensures.weight
+
+pub returns-in_err-remove-clause-asked : goal.returns-in_err-remove-clause-asked
+returns-in_err-remove-clause-asked g c = λ h s t.
+    subst (λ (n : ℕ). g.S.NodeStore.asked c.remove.new.store ≤ g.S.NodeStore.asked c.args.store.now + remove_asks n)
+    (c.in_ok-height.ensures.is h s (rooted c.args.spec.now (g.S.NodeStore.bucket_at c.args.store.now) c.args.root h s t)) c.remove.ensures.asked
+
+pub returns-in_err-remove-clause-weight : goal.returns-in_err-remove-clause-weight
+returns-in_err-remove-clause-weight g c = λ h s t.
+    subst (λ (n : ℕ). g.S.NodeStore.declared c.remove.new.store ≤ g.S.NodeStore.declared c.args.store.now + remove_weighs n)
+    (c.in_ok-height.ensures.is h s (rooted c.args.spec.now (g.S.NodeStore.bucket_at c.args.store.now) c.args.root h s t)) c.remove.ensures.weight

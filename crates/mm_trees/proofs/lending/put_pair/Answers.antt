@@ -1,4 +1,4 @@
-use Rattle.std.proofs.Common.{◌≡◌, ℕ, false, List, sym, ◌∙◌, ap, subst}
+use Rattle.std.proofs.Common.{◌≡◌, ℕ, false, List, sym, ◌∙◌, ap, subst, arith}
 use Rattle.std.proofs.lemmas.Result.{IfOk-weaker, on_ok_weaker}
 use Rattle.mm_views.specs.State.{Drafting}
 use Rattle.mm_records.specs.Shape.{Shape}
@@ -7,9 +7,11 @@ use Rattle.mm_btree.specs.Trees.{Sub}
 use Rattle.mm_btree.specs.Order.{item_lt, IsLacking}
 use Rattle.mm_btree.specs.Changes.{IsTree}
 use Rattle.mm_trees.specs.Buckets.{Holds, Goes, IsFull, bucket_in}
+use Rattle.mm_btree.specs.Costs.{insert_asks, insert_weighs}
+use Rattle.mm_trees.specs.Costs.{most_places}
 use Rattle.mm_trees.specs.Kept.{Kept, bucket_of, start_of}
 use Rattle.mm_trees.specs.Changes.{IsPutIn, IsTwice, IsntTwice}
-use Rattle.mm_trees.proofs.Lent.{on_of, goes_from, full_from, put_seen, put_whole}
+use Rattle.mm_trees.proofs.Lent.{on_of, few_asked, weight_by, goes_few, scarce_few, full_from, put_seen, put_whole}
 use Rattle.mm_trees.proofs.lending.put_pair.Goals as goal
 
 pub new-store-requires : goal.new-store-requires
@@ -53,9 +55,11 @@ returns-clause-goes c =
     let k = c.put_in-result.new.store in
     let stays : start_of k ≡ start_of (record { draft = d; node = node; broken = false; start = d; asked = 0 }) = c.put_in-result.ensures.stays ∙ ap start_of made in
     let t = c.requires.tree in
+    let r = c.requires.holds in
+    let few = few_asked d node k false stays spec root c.new-store.result made insert_asks c.put_in-result.ensures.asked r.0 r.1.0 r.1.1 t.0 t.1.0 t.1.1.0 (λ n le. omega (arith, le)) in
     on_of c.put_in-result.result _ _ (λ r f.
     let whole = put_whole d node k false stays spec root x r t.0 t.1.0 t.1.1.0 t.1.1.1 (subst (λ (m : Buckets). IsPutIn spec m (bucket_of k) root x r) same f) in
-    (k.asked, subst (λ (n : Drafting). Goes d.image n.image node k.asked) (sym c.into_draft.ensures.draft) (goes_from d node k false stays c.into_draft.ensures.kept whole))) c.put_in-result.ensures.ok
+    subst (λ (n : Drafting). Goes d.image n.image node most_places) (sym c.into_draft.ensures.draft) (goes_few d node k false stays c.into_draft.ensures.kept whole few)) c.put_in-result.ensures.ok
 
 pub returns-clause-alone : goal.returns-clause-alone
 returns-clause-alone c =
@@ -102,3 +106,28 @@ returns-clause-full c = λ e.
     let k = c.put_in-result.new.store in
     let stays : start_of k ≡ start_of (record { draft = d; node = node; broken = false; start = d; asked = 0 }) = c.put_in-result.ensures.stays ∙ ap start_of made in
     subst (λ (n : Drafting). IsFull d.image n.image node) (sym c.into_draft.ensures.draft) (full_from d node k false stays (c.put_in-result.ensures.full e))
+
+pub returns-clause-scarce : goal.returns-clause-scarce
+returns-clause-scarce c = λ e.
+    let d = c.args.draft.now in
+    let node = c.args.node in
+    let spec = c.args.spec.now in
+    let root = c.args.root in
+    let made : c.new-store.result ≡ record { draft = d; node = node; broken = false; start = d; asked = 0 } = c.new-store.ensures ∙ ap (λ (y : Drafting). record { draft = y; node = node; broken = false; start = y; asked = 0 }) c.replace-lent.ensures.value in
+    let k = c.put_in-result.new.store in
+    let stays : start_of k ≡ start_of (record { draft = d; node = node; broken = false; start = d; asked = 0 }) = c.put_in-result.ensures.stays ∙ ap start_of made in
+    let t = c.requires.tree in
+    let r = c.requires.holds in
+    let few = few_asked d node k false stays spec root c.new-store.result made insert_asks c.put_in-result.ensures.asked r.0 r.1.0 r.1.1 t.0 t.1.0 t.1.1.0 (λ n le. omega (arith, le)) in
+    scarce_few d node k false stays (c.put_in-result.ensures.full e) few
+
+pub returns-clause-weight : goal.returns-clause-weight
+returns-clause-weight c =
+    let d = c.args.draft.now in
+    let node = c.args.node in
+    let spec = c.args.spec.now in
+    let root = c.args.root in
+    let made : c.new-store.result ≡ record { draft = d; node = node; broken = false; start = d; asked = 0 } = c.new-store.ensures ∙ ap (λ (y : Drafting). record { draft = y; node = node; broken = false; start = y; asked = 0 }) c.replace-lent.ensures.value in
+    let k = c.put_in-result.new.store in
+    let stays : start_of k ≡ start_of (record { draft = d; node = node; broken = false; start = d; asked = 0 }) = c.put_in-result.ensures.stays ∙ ap start_of made in
+    weight_by d node k false stays spec root c.new-store.result made insert_weighs c.put_in-result.ensures.weight c.into_draft.result c.into_draft.ensures.draft

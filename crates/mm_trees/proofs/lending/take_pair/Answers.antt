@@ -1,4 +1,4 @@
-use Rattle.std.proofs.Common.{◌≡◌, ℕ, false, List, sym, ◌∙◌, ap, subst}
+use Rattle.std.proofs.Common.{◌≡◌, ℕ, false, List, sym, ◌∙◌, ap, subst, arith}
 use Rattle.std.proofs.lemmas.Result.{IfOk-weaker}
 use Rattle.mm_views.specs.State.{Drafting}
 use Rattle.mm_records.specs.Shape.{Shape}
@@ -7,9 +7,11 @@ use Rattle.mm_btree.specs.Trees.{Sub}
 use Rattle.mm_btree.specs.Order.{item_lt}
 use Rattle.mm_btree.specs.Changes.{IsTree}
 use Rattle.mm_trees.specs.Buckets.{Holds, Goes, IsFull, bucket_in}
+use Rattle.mm_btree.specs.Costs.{remove_asks, remove_weighs}
+use Rattle.mm_trees.specs.Costs.{most_places}
 use Rattle.mm_trees.specs.Kept.{Kept, bucket_of, start_of}
 use Rattle.mm_trees.specs.Changes.{IsTaken, IsThere}
-use Rattle.mm_trees.proofs.Lent.{goes_from, full_from, taken_seen, taken_whole}
+use Rattle.mm_trees.proofs.Lent.{few_asked, weight_by, goes_few, scarce_few, full_from, taken_seen, taken_whole}
 use Rattle.mm_trees.proofs.lending.take_pair.Goals as goal
 
 pub new-store-requires : goal.new-store-requires
@@ -53,9 +55,11 @@ returns-clause-goes c =
     let k = c.take_out-result.new.store in
     let stays : start_of k ≡ start_of (record { draft = d; node = node; broken = false; start = d; asked = 0 }) = c.take_out-result.ensures.stays ∙ ap start_of made in
     let t = c.requires.tree in
+    let r = c.requires.holds in
+    let few = few_asked d node k false stays spec root c.new-store.result made remove_asks c.take_out-result.ensures.asked r.0 r.1.0 r.1.1 t.0 t.1.0 t.1.1 (λ n le. omega (arith, le)) in
     IfOk-weaker c.take_out-result.result _ _ (λ r f after e.
     let whole = taken_whole d node k false stays spec root after x t.0 t.1.0 t.1.1 (subst (λ (m : Buckets). IsTaken spec m (bucket_of k) root x after) same (f after e)) in
-    (k.asked, subst (λ (n : Drafting). Goes d.image n.image node k.asked) (sym c.into_draft.ensures.draft) (goes_from d node k false stays c.into_draft.ensures.kept whole))) c.take_out-result.ensures.out
+    subst (λ (n : Drafting). Goes d.image n.image node most_places) (sym c.into_draft.ensures.draft) (goes_few d node k false stays c.into_draft.ensures.kept whole few)) c.take_out-result.ensures.out
 
 pub returns-clause-there : goal.returns-clause-there
 returns-clause-there c =
@@ -91,3 +95,28 @@ returns-clause-full c = λ e.
     let k = c.take_out-result.new.store in
     let stays : start_of k ≡ start_of (record { draft = d; node = node; broken = false; start = d; asked = 0 }) = c.take_out-result.ensures.stays ∙ ap start_of made in
     subst (λ (n : Drafting). IsFull d.image n.image node) (sym c.into_draft.ensures.draft) (full_from d node k false stays (c.take_out-result.ensures.full e))
+
+pub returns-clause-scarce : goal.returns-clause-scarce
+returns-clause-scarce c = λ e.
+    let d = c.args.draft.now in
+    let node = c.args.node in
+    let spec = c.args.spec.now in
+    let root = c.args.root in
+    let made : c.new-store.result ≡ record { draft = d; node = node; broken = false; start = d; asked = 0 } = c.new-store.ensures ∙ ap (λ (y : Drafting). record { draft = y; node = node; broken = false; start = y; asked = 0 }) c.replace-lent.ensures.value in
+    let k = c.take_out-result.new.store in
+    let stays : start_of k ≡ start_of (record { draft = d; node = node; broken = false; start = d; asked = 0 }) = c.take_out-result.ensures.stays ∙ ap start_of made in
+    let t = c.requires.tree in
+    let r = c.requires.holds in
+    let few = few_asked d node k false stays spec root c.new-store.result made remove_asks c.take_out-result.ensures.asked r.0 r.1.0 r.1.1 t.0 t.1.0 t.1.1 (λ n le. omega (arith, le)) in
+    scarce_few d node k false stays (c.take_out-result.ensures.full e) few
+
+pub returns-clause-weight : goal.returns-clause-weight
+returns-clause-weight c =
+    let d = c.args.draft.now in
+    let node = c.args.node in
+    let spec = c.args.spec.now in
+    let root = c.args.root in
+    let made : c.new-store.result ≡ record { draft = d; node = node; broken = false; start = d; asked = 0 } = c.new-store.ensures ∙ ap (λ (y : Drafting). record { draft = y; node = node; broken = false; start = y; asked = 0 }) c.replace-lent.ensures.value in
+    let k = c.take_out-result.new.store in
+    let stays : start_of k ≡ start_of (record { draft = d; node = node; broken = false; start = d; asked = 0 }) = c.take_out-result.ensures.stays ∙ ap start_of made in
+    weight_by d node k false stays spec root c.new-store.result made remove_weighs c.take_out-result.ensures.weight c.into_draft.result c.into_draft.ensures.draft

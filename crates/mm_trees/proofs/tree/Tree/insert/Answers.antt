@@ -1,4 +1,4 @@
-use Rattle.std.proofs.Common.{◌≡◌, ℕ, List, Option, Err, IsSome, sym, ap, subst}
+use Rattle.std.proofs.Common.{◌≡◌, ℕ, List, Option, Err, IsSome, sym, ap, subst, arith}
 use Rattle.mm_base.specs.declared.place.DiskLoc.{DiskLoc}
 use Rattle.mm_bson.specs.Spelling.{spelling}
 use Rattle.mm_bson.specs.Walk.{document_in}
@@ -8,6 +8,7 @@ use Rattle.mm_btree.specs.Lists.{ins}
 use Rattle.mm_btree.specs.Order.{item_lt, IsLacking, first_with}
 use Rattle.mm_btree.specs.declared.fault.TreeFault.TheVariants.{Duplicate, NoSpace}
 use Rattle.mm_trees.specs.Buckets.{bucket_in}
+use Rattle.mm_trees.specs.Costs.{most_places}
 use Rattle.mm_trees.specs.Indexes.{HasIndex}
 use Rattle.mm_trees.specs.Changes.{IsPutIn}
 use Rattle.mm_trees.proofs.Changing.{goes_beside, goes_put, owner_used, table_after, tree_at, lacking_at, put_none, put_some}
@@ -44,10 +45,10 @@ put_pair-requires-clause-tree c =
     (i.height, (i.s, (tree_at old node owner position spec root is x pairs i, lacking_at old node owner position spec root is x pairs i (subst (λ (k : List ℕ). IsLacking spec (record { key = k; rec = c.args.rec }) pairs) (sym spelled) l))))
 
 pub put_root-requires-clause-table : goal.put_root-requires-clause-table
-put_root-requires-clause-table c = let i = c.requires.index.1.0 in table_after c.args.draft.now.image c.put_pair.new.draft.image c.args.self.now.store.node c.in_ok-put_pair.ensures.goes.0 i.free i.shape i.holds c.in_ok-put_pair.ensures.goes.1
+put_root-requires-clause-table c = let i = c.requires.index.1.0 in table_after c.args.draft.now.image c.put_pair.new.draft.image c.args.self.now.store.node most_places i.free i.shape i.holds c.in_ok-put_pair.ensures.goes
 
 pub put_root-requires-clause-used : goal.put_root-requires-clause-used
-put_root-requires-clause-used c = let i = c.requires.index.1.0 in owner_used c.args.draft.now.image c.put_pair.new.draft.image c.args.self.now.store.node c.args.self.now.owner c.in_ok-put_pair.ensures.goes.0 i.free i.shape i.holds i.owner_is.used c.in_ok-put_pair.ensures.goes.1
+put_root-requires-clause-used c = let i = c.requires.index.1.0 in owner_used c.args.draft.now.image c.put_pair.new.draft.image c.args.self.now.store.node c.args.self.now.owner most_places i.free i.shape i.holds i.owner_is.used c.in_ok-put_pair.ensures.goes
 
 pub put_root-requires-clause-inside : goal.put_root-requires-clause-inside
 put_root-requires-clause-inside c = c.requires.index.1.0.inside
@@ -68,7 +69,7 @@ returns-in-None-clause-ok c = λ pairs i l.
     let e = c.in_ok-put_pair.ensures in
     let f = subst (λ (r : Option DiskLoc). IsPutIn spec (bucket_in old node) (bucket_in new node) root x r) c.in-None.is e.ok in
     subst (λ (k : List ℕ). HasIndex new node owner position spec (ins (item_lt spec) (record { key = k; rec = c.args.rec }) pairs)) spelled
-    (put_none old node owner position spec root is x new e.goes.0 e.goes.1 f pairs i (subst (λ (k : List ℕ). IsLacking spec (record { key = k; rec = c.args.rec }) pairs) (sym spelled) l))
+    (put_none old node owner position spec root is x new most_places e.goes f pairs i (subst (λ (k : List ℕ). IsLacking spec (record { key = k; rec = c.args.rec }) pairs) (sym spelled) l))
 
 pub returns-in_ok-put_root-in-Some-clause-ok : goal.returns-in_ok-put_root-in-Some-clause-ok
 returns-in_ok-put_root-in-Some-clause-ok c = λ pairs i l.
@@ -87,15 +88,15 @@ returns-in_ok-put_root-in-Some-clause-ok c = λ pairs i l.
     let e = c.in_ok-put_pair.ensures in
     let f = subst (λ (r : Option DiskLoc). IsPutIn spec (bucket_in old node) (bucket_in mid node) root x r) c.in-Some.is e.ok in
     subst (λ (k : List ℕ). HasIndex new node owner position spec (ins (item_lt spec) (record { key = k; rec = c.args.rec }) pairs)) spelled
-    (put_some old node owner position spec root is x mid new c.in-Some.top e.goes.0 e.goes.1 f c.in_ok-put_root-in-Some.ensures.put pairs i (subst (λ (k : List ℕ). IsLacking spec (record { key = k; rec = c.args.rec }) pairs) (sym spelled) l))
+    (put_some old node owner position spec root is x mid new c.in-Some.top most_places e.goes f c.in_ok-put_root-in-Some.ensures.put pairs i (subst (λ (k : List ℕ). IsLacking spec (record { key = k; rec = c.args.rec }) pairs) (sym spelled) l))
 
 pub returns-in-None-clause-beside : goal.returns-in-None-clause-beside
 returns-in-None-clause-beside c =
-    (c.in_ok-put_pair.ensures.goes.0, goes_beside c.args.draft.now.image c.put_pair.new.draft.image c.args.self.now.store.node c.args.self.now.owner c.args.self.now.position c.in_ok-put_pair.ensures.goes.0 c.in_ok-put_pair.ensures.goes.1)
+    goes_beside c.args.draft.now.image c.put_pair.new.draft.image c.args.self.now.store.node c.args.self.now.owner c.args.self.now.position most_places c.in_ok-put_pair.ensures.goes
 
 pub returns-in_ok-put_root-in-Some-clause-beside : goal.returns-in_ok-put_root-in-Some-clause-beside
 returns-in_ok-put_root-in-Some-clause-beside c =
-    (c.in_ok-put_pair.ensures.goes.0, goes_put c.args.draft.now.image c.put_pair.new.draft.image c.put_root.new.draft.image c.args.self.now.store.node c.args.self.now.owner c.args.self.now.position c.in_ok-put_pair.ensures.goes.0 c.in-Some.top c.in_ok-put_pair.ensures.goes.1 c.in_ok-put_root-in-Some.ensures.put c.requires.index.1.0.inside)
+    goes_put c.args.draft.now.image c.put_pair.new.draft.image c.put_root.new.draft.image c.args.self.now.store.node c.args.self.now.owner c.args.self.now.position most_places c.in-Some.top c.in_ok-put_pair.ensures.goes c.in_ok-put_root-in-Some.ensures.put c.requires.index.1.0.inside
 
 pub returns-in-None-clause-alone : goal.returns-in-None-clause-alone
 returns-in-None-clause-alone c = λ pairs i u y.
@@ -156,3 +157,63 @@ returns-in_err-put_root-in-Some-clause-kept c = λ e. absurd (no_duplicate c.fro
 
 pub returns-in_err-put_root-in-Some-clause-full : goal.returns-in_err-put_root-in-Some-clause-full
 returns-in_err-put_root-in-Some-clause-full c = λ e. absurd (no_space c.from_residual-in_err-put_root-in-Some.result c.from_residual-in_err-put_root-in-Some.ensures.1 e)
+
+pub returns-in_err-put_pair-clause-scarce : goal.returns-in_err-put_pair-clause-scarce
+returns-in_err-put_pair-clause-scarce c = λ e. c.in_err-put_pair.ensures.scarce (ap Err (handed_on c.from_residual.result c.in_err-put_pair.field-0.0 NoSpace c.from_residual.ensures.1 e))
+
+pub returns-in_err-put_root-in-Some-clause-scarce : goal.returns-in_err-put_root-in-Some-clause-scarce
+returns-in_err-put_root-in-Some-clause-scarce c = λ e. absurd (no_space c.from_residual-in_err-put_root-in-Some.result c.from_residual-in_err-put_root-in-Some.ensures.1 e)
+
+pub returns-in_err-put_pair-clause-weight : goal.returns-in_err-put_pair-clause-weight
+returns-in_err-put_pair-clause-weight c = λ pairs i.
+    let old = c.args.draft.now.image in
+    let node = c.args.self.now.store.node in
+    let owner = c.args.self.now.owner in
+    let position = c.args.self.now.position in
+    let spec = c.args.self.now.spec in
+    let root = c.root_of-root.result in
+    let is = c.root_of-root.ensures in
+    let x : Item = record { key = c.bytes-bytes.result.now; rec = c.args.rec } in
+    let w = c.put_pair.ensures.weight i.height i.s (tree_at old node owner position spec root is x pairs i) in
+    omega (arith, w)
+
+pub returns-in-None-clause-weight : goal.returns-in-None-clause-weight
+returns-in-None-clause-weight c = λ pairs i.
+    let old = c.args.draft.now.image in
+    let node = c.args.self.now.store.node in
+    let owner = c.args.self.now.owner in
+    let position = c.args.self.now.position in
+    let spec = c.args.self.now.spec in
+    let root = c.root_of-root.result in
+    let is = c.root_of-root.ensures in
+    let x : Item = record { key = c.bytes-bytes.result.now; rec = c.args.rec } in
+    let w = c.put_pair.ensures.weight i.height i.s (tree_at old node owner position spec root is x pairs i) in
+    omega (arith, w)
+
+pub returns-in_ok-put_root-in-Some-clause-weight : goal.returns-in_ok-put_root-in-Some-clause-weight
+returns-in_ok-put_root-in-Some-clause-weight c = λ pairs i.
+    let old = c.args.draft.now.image in
+    let node = c.args.self.now.store.node in
+    let owner = c.args.self.now.owner in
+    let position = c.args.self.now.position in
+    let spec = c.args.self.now.spec in
+    let root = c.root_of-root.result in
+    let is = c.root_of-root.ensures in
+    let x : Item = record { key = c.bytes-bytes.result.now; rec = c.args.rec } in
+    let w = c.put_pair.ensures.weight i.height i.s (tree_at old node owner position spec root is x pairs i) in
+    let r = c.put_root.ensures.weight in
+    omega (arith, w, r)
+
+pub returns-in_err-put_root-in-Some-clause-weight : goal.returns-in_err-put_root-in-Some-clause-weight
+returns-in_err-put_root-in-Some-clause-weight c = λ pairs i.
+    let old = c.args.draft.now.image in
+    let node = c.args.self.now.store.node in
+    let owner = c.args.self.now.owner in
+    let position = c.args.self.now.position in
+    let spec = c.args.self.now.spec in
+    let root = c.root_of-root.result in
+    let is = c.root_of-root.ensures in
+    let x : Item = record { key = c.bytes-bytes.result.now; rec = c.args.rec } in
+    let w = c.put_pair.ensures.weight i.height i.s (tree_at old node owner position spec root is x pairs i) in
+    let r = c.put_root.ensures.weight in
+    omega (arith, w, r)

@@ -1,10 +1,11 @@
-use Rattle.std.proofs.Common.{◌≡◌, ℕ, List, Err, refl, sym, ◌∙◌, ap, subst}
+use Rattle.std.proofs.Common.{◌≡◌, ℕ, List, Err, refl, sym, ◌∙◌, ap, subst, arith}
 use Rattle.mm_bson.specs.Spelling.{spelling}
 use Rattle.mm_bucket.specs.Pairs.{IsKey}
 use Rattle.mm_btree.specs.Nodes.{Item}
 use Rattle.mm_btree.specs.Order.{IsLacking}
 use Rattle.mm_btree.specs.Removal.{without}
 use Rattle.mm_btree.specs.declared.fault.TreeFault.TheVariants.{Duplicate, NoSpace}
+use Rattle.mm_trees.specs.Costs.{most_places}
 use Rattle.mm_trees.specs.Indexes.{HasIndex}
 use Rattle.mm_trees.proofs.Changing.{goes_put, owner_used, table_after, tree_at, taken_out}
 use Rattle.mm_trees.proofs.Faults.{handed_on, no_space, no_duplicate}
@@ -38,10 +39,10 @@ take_pair-requires-clause-tree c =
     (i.height, (i.s, tree_at old node owner position spec root is x c.requires.index.0 i))
 
 pub put_root-requires-clause-table : goal.put_root-requires-clause-table
-put_root-requires-clause-table c = let i = c.requires.index.1 in table_after c.args.draft.now.image c.take_pair.new.draft.image c.args.self.now.store.node (c.in_ok-take_pair.ensures.goes c.in-Some.top c.in-Some.is).0 i.free i.shape i.holds (c.in_ok-take_pair.ensures.goes c.in-Some.top c.in-Some.is).1
+put_root-requires-clause-table c = let i = c.requires.index.1 in table_after c.args.draft.now.image c.take_pair.new.draft.image c.args.self.now.store.node most_places i.free i.shape i.holds (c.in_ok-take_pair.ensures.goes c.in-Some.top c.in-Some.is)
 
 pub put_root-requires-clause-used : goal.put_root-requires-clause-used
-put_root-requires-clause-used c = let i = c.requires.index.1 in owner_used c.args.draft.now.image c.take_pair.new.draft.image c.args.self.now.store.node c.args.self.now.owner (c.in_ok-take_pair.ensures.goes c.in-Some.top c.in-Some.is).0 i.free i.shape i.holds i.owner_is.used (c.in_ok-take_pair.ensures.goes c.in-Some.top c.in-Some.is).1
+put_root-requires-clause-used c = let i = c.requires.index.1 in owner_used c.args.draft.now.image c.take_pair.new.draft.image c.args.self.now.store.node c.args.self.now.owner most_places i.free i.shape i.holds i.owner_is.used (c.in_ok-take_pair.ensures.goes c.in-Some.top c.in-Some.is)
 
 pub put_root-requires-clause-inside : goal.put_root-requires-clause-inside
 put_root-requires-clause-inside c = c.requires.index.1.inside
@@ -62,11 +63,11 @@ returns-in_ok-put_root-in-Some-clause-out c = λ _ pairs i.
     let new = c.put_root.new.draft.image in
     let e = c.in_ok-take_pair.ensures in
     subst (λ (k : List ℕ). HasIndex new node owner position spec (without spec (record { key = k; rec = c.args.rec }) pairs)) spelled
-    (taken_out old node owner position spec root is x mid new c.in-Some.top (e.goes c.in-Some.top c.in-Some.is).0 (e.goes c.in-Some.top c.in-Some.is).1 (e.out c.in-Some.top c.in-Some.is) c.in_ok-put_root-in-Some.ensures.put pairs i)
+    (taken_out old node owner position spec root is x mid new c.in-Some.top most_places (e.goes c.in-Some.top c.in-Some.is) (e.out c.in-Some.top c.in-Some.is) c.in_ok-put_root-in-Some.ensures.put pairs i)
 
 pub returns-in_ok-put_root-in-Some-clause-beside : goal.returns-in_ok-put_root-in-Some-clause-beside
 returns-in_ok-put_root-in-Some-clause-beside c = λ _.
-    ((c.in_ok-take_pair.ensures.goes c.in-Some.top c.in-Some.is).0, goes_put c.args.draft.now.image c.take_pair.new.draft.image c.put_root.new.draft.image c.args.self.now.store.node c.args.self.now.owner c.args.self.now.position (c.in_ok-take_pair.ensures.goes c.in-Some.top c.in-Some.is).0 c.in-Some.top (c.in_ok-take_pair.ensures.goes c.in-Some.top c.in-Some.is).1 c.in_ok-put_root-in-Some.ensures.put c.requires.index.1.inside)
+    goes_put c.args.draft.now.image c.take_pair.new.draft.image c.put_root.new.draft.image c.args.self.now.store.node c.args.self.now.owner c.args.self.now.position most_places c.in-Some.top (c.in_ok-take_pair.ensures.goes c.in-Some.top c.in-Some.is) c.in_ok-put_root-in-Some.ensures.put c.requires.index.1.inside
 
 pub returns-in-None-clause-there : goal.returns-in-None-clause-there
 returns-in-None-clause-there c = λ pairs i.
@@ -121,3 +122,63 @@ returns-in_err-put_root-in-Some-clause-full c = λ e. absurd (no_space c.from_re
 
 pub returns-in_err-put_root-in-Some-clause-other : goal.returns-in_err-put_root-in-Some-clause-other
 returns-in_err-put_root-in-Some-clause-other c = λ e. no_duplicate c.from_residual-in_err-put_root-in-Some.result c.from_residual-in_err-put_root-in-Some.ensures.1 e
+
+pub returns-in_err-take_pair-clause-scarce : goal.returns-in_err-take_pair-clause-scarce
+returns-in_err-take_pair-clause-scarce c = λ e. c.in_err-take_pair.ensures.scarce (ap Err (handed_on c.from_residual.result c.in_err-take_pair.field-0.0 NoSpace c.from_residual.ensures.1 e))
+
+pub returns-in_err-put_root-in-Some-clause-scarce : goal.returns-in_err-put_root-in-Some-clause-scarce
+returns-in_err-put_root-in-Some-clause-scarce c = λ e. absurd (no_space c.from_residual-in_err-put_root-in-Some.result c.from_residual-in_err-put_root-in-Some.ensures.1 e)
+
+pub returns-in_err-take_pair-clause-weight : goal.returns-in_err-take_pair-clause-weight
+returns-in_err-take_pair-clause-weight c = λ pairs i.
+    let old = c.args.draft.now.image in
+    let node = c.args.self.now.store.node in
+    let owner = c.args.self.now.owner in
+    let position = c.args.self.now.position in
+    let spec = c.args.self.now.spec in
+    let root = c.root_of-root.result in
+    let is = c.root_of-root.ensures in
+    let x : Item = record { key = c.bytes-bytes.result.now; rec = c.args.rec } in
+    let w = c.take_pair.ensures.weight i.height i.s (tree_at old node owner position spec root is x pairs i) in
+    omega (arith, w)
+
+pub returns-in-None-clause-weight : goal.returns-in-None-clause-weight
+returns-in-None-clause-weight c = λ pairs i.
+    let old = c.args.draft.now.image in
+    let node = c.args.self.now.store.node in
+    let owner = c.args.self.now.owner in
+    let position = c.args.self.now.position in
+    let spec = c.args.self.now.spec in
+    let root = c.root_of-root.result in
+    let is = c.root_of-root.ensures in
+    let x : Item = record { key = c.bytes-bytes.result.now; rec = c.args.rec } in
+    let w = c.take_pair.ensures.weight i.height i.s (tree_at old node owner position spec root is x pairs i) in
+    omega (arith, w)
+
+pub returns-in_ok-put_root-in-Some-clause-weight : goal.returns-in_ok-put_root-in-Some-clause-weight
+returns-in_ok-put_root-in-Some-clause-weight c = λ pairs i.
+    let old = c.args.draft.now.image in
+    let node = c.args.self.now.store.node in
+    let owner = c.args.self.now.owner in
+    let position = c.args.self.now.position in
+    let spec = c.args.self.now.spec in
+    let root = c.root_of-root.result in
+    let is = c.root_of-root.ensures in
+    let x : Item = record { key = c.bytes-bytes.result.now; rec = c.args.rec } in
+    let w = c.take_pair.ensures.weight i.height i.s (tree_at old node owner position spec root is x pairs i) in
+    let r = c.put_root.ensures.weight in
+    omega (arith, w, r)
+
+pub returns-in_err-put_root-in-Some-clause-weight : goal.returns-in_err-put_root-in-Some-clause-weight
+returns-in_err-put_root-in-Some-clause-weight c = λ pairs i.
+    let old = c.args.draft.now.image in
+    let node = c.args.self.now.store.node in
+    let owner = c.args.self.now.owner in
+    let position = c.args.self.now.position in
+    let spec = c.args.self.now.spec in
+    let root = c.root_of-root.result in
+    let is = c.root_of-root.ensures in
+    let x : Item = record { key = c.bytes-bytes.result.now; rec = c.args.rec } in
+    let w = c.take_pair.ensures.weight i.height i.s (tree_at old node owner position spec root is x pairs i) in
+    let r = c.put_root.ensures.weight in
+    omega (arith, w, r)
