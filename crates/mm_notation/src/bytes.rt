@@ -41,11 +41,9 @@ pub(crate) fn after_word<'a>(word: &[u8], text: &'a [u8]) -> Result<&'a [u8], St
     ensures gives { Gives (λ r. (tt, r.now)) result (word_at word.now text.now) }
     ensures left { IfOk result (λ r. length r.now + length word.now ≤ length text.now) }
 {
-    let mut due = word;
     let mut rest = text;
-    'word: while let [byte, others @ ..] = due {
+    'word: for byte in word {
         rest = after_byte(*byte, rest)?;
-        due = others;
     }
     Ok(rest)
 }

@@ -41,10 +41,8 @@ fn put_inside(out: &mut Vec<u8>, text: &[u8]) -> Result<(), AllocError>
     ensures ok { OnOk result (out.new.items ≡ out.old.items ++ flat_map written_byte text.now) }
     ensures err { OnErr result (Grows out.old.items out.new.items) }
 {
-    let mut rest = text;
-    'bytes: while let [first, others @ ..] = rest {
-        put_byte(out, *first)?;
-        rest = others;
+    'bytes: for byte in text {
+        put_byte(out, *byte)?;
     }
     Ok(())
 }
@@ -185,11 +183,9 @@ fn put_more_values(out: &mut Vec<u8>, values: &[Value]) -> Result<(), AllocError
     ensures ok { OnOk result (out.new.items ≡ out.old.items ++ more_values (values_of values.now)) }
     ensures err { OnErr result (Grows out.old.items out.new.items) }
 {
-    let mut rest = values;
-    'values: while let [first, others @ ..] = rest {
+    'values: for value in values {
         put(out, b", ")?;
-        put_value(out, first)?;
-        rest = others;
+        put_value(out, value)?;
     }
     put(out, b"]")
 }
@@ -224,11 +220,9 @@ fn put_more_members(out: &mut Vec<u8>, members: &[Element]) -> Result<(), AllocE
     ensures ok { OnOk result (out.new.items ≡ out.old.items ++ more_members (elements_of members.now)) }
     ensures err { OnErr result (Grows out.old.items out.new.items) }
 {
-    let mut rest = members;
-    'members: while let [first, others @ ..] = rest {
+    'members: for member in members {
         put(out, b", ")?;
-        put_member(out, first)?;
-        rest = others;
+        put_member(out, member)?;
     }
     put(out, b"}")
 }

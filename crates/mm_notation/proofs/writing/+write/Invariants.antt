@@ -1,4 +1,4 @@
-use Rattle.std.proofs.Common.{◌≡◌, ◌+◌, ◌*◌, ◌≤◌, ◌++◌, length}
+use Rattle.std.proofs.Common.{◌≡◌, ◌+◌, ◌*◌, ◌≤◌, ◌++◌, drop}
 use Rattle.mm_bson.specs.Tree.{tree_depth, depth, values_depth}
 use Rattle.mm_bson.specs.View.{tree, elements_of, values_of}
 use Rattle.mm_notation.specs.Written.{more_members, more_values, Grows}
@@ -24,20 +24,14 @@ decreases-put_more_members l = 4 * depth (elements_of l.members.now) + 2
 
 abbrev pub invariant-put_more_values-values : goal.invariant-put_more_values-values
 invariant-put_more_values-values l = record {
-  written : l.out.items ++ more_values (values_of l.rest) ≡ l.fn.out.items ++ more_values (values_of l.values);
+  written : l.out.items ++ more_values (values_of (drop l.value-index l.values)) ≡ l.fn.out.items ++ more_values (values_of l.values);
   grows : Grows l.fn.out.items l.out.items;
-  shallow : values_depth (values_of l.rest) ≤ values_depth (values_of l.values);
+  shallow : values_depth (values_of (drop l.value-index l.values)) ≤ values_depth (values_of l.values);
 }
-
-abbrev pub decreases-put_more_values-values : goal.decreases-put_more_values-values
-decreases-put_more_values-values l = length l.rest
 
 abbrev pub invariant-put_more_members-members : goal.invariant-put_more_members-members
 invariant-put_more_members-members l = record {
-  written : l.out.items ++ more_members (elements_of l.rest) ≡ l.fn.out.items ++ more_members (elements_of l.members);
+  written : l.out.items ++ more_members (elements_of (drop l.member-index l.members)) ≡ l.fn.out.items ++ more_members (elements_of l.members);
   grows : Grows l.fn.out.items l.out.items;
-  shallow : depth (elements_of l.rest) ≤ depth (elements_of l.members);
+  shallow : depth (elements_of (drop l.member-index l.members)) ≤ depth (elements_of l.members);
 }
-
-abbrev pub decreases-put_more_members-members : goal.decreases-put_more_members-members
-decreases-put_more_members-members l = length l.rest
