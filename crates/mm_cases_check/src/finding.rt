@@ -2,8 +2,8 @@
 
 use crate::names::database;
 use anyhow::{Result, bail};
-use mm_check::{Report, check};
-use mm_model::{CheckFault, Finding, What};
+use mm_check::check;
+use mm_model::{CheckFault, Finding, Report, What};
 use mm_views::{NS_FILE, Views};
 use std::alloc::{AllocError, Global};
 
