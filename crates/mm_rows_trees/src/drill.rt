@@ -46,8 +46,8 @@ fn lists(alloc: Global, draft: &Draft, tree: &Tree, there: &[bool]) -> Result<bo
     Ok(agree(records.as_slice(), there))
 }
 
-// One pair comes or goes.
-fn step(
+/// One pair comes or goes.
+pub(crate) fn step(
     alloc: Global,
     draft: &mut Draft,
     tree: &Tree,

@@ -11,6 +11,7 @@ use mm_bson::Doc;
 use mm_btree::TreeFault;
 use mm_keys::KeySpec;
 use mm_nstable::details;
+use mm_query::Bounds;
 use mm_records::RecordStore;
 use mm_trees::Tree;
 use mm_views::Draft;
@@ -71,6 +72,28 @@ pub(crate) fn put(
     Ok(true)
 }
 
+/// Puts a pair in that isn't there, as of a unique index; false where it is refused, since a pair of an equal key stands there.
+pub(crate) fn put_alone(
+    alloc: Global,
+    draft: &mut Draft,
+    tree: &Tree,
+    key: &Doc,
+    rec: DiskLoc,
+) -> Result<bool, TreeFault>
+    requires key { IsKey (spelling key.now) }
+    requires index { HasSome draft.old.image tree.now.store.node tree.now.owner tree.now.position tree.now.spec }
+    ensures { OnOk result (HasSome draft.new.image tree.now.store.node tree.now.owner tree.now.position tree.now.spec) }
+{
+    if tree.remove(alloc, draft, key, rec)? {
+        return Err(TreeFault::NoMemory);
+    }
+    match tree.insert(alloc, draft, key, rec, true) {
+        Ok(()) => Ok(true),
+        Err(TreeFault::Duplicate) => Ok(false),
+        Err(fault) => Err(fault),
+    }
+}
+
 /// Takes a pair out; false where it wasn't there.
 pub(crate) fn taken(
     alloc: Global,
@@ -92,6 +115,20 @@ pub(crate) fn listed(alloc: Global, draft: &Draft, tree: &Tree) -> Result<Vec<Di
 {
     let mut out = Vec::new(alloc);
     tree.walk(draft, &mut out)?;
+    Ok(out)
+}
+
+/// The records of the pairs whose keys lie between two bounds, in their order.
+pub(crate) fn ranged(
+    alloc: Global,
+    draft: &Draft,
+    tree: &Tree,
+    bounds: &Bounds,
+) -> Result<Vec<DiskLoc>, NoMemory>
+    requires { HasSome draft.now.image tree.now.store.node tree.now.owner tree.now.position tree.now.spec }
+{
+    let mut out = Vec::new(alloc);
+    tree.range(draft, bounds, &mut out)?;
     Ok(out)
 }
 

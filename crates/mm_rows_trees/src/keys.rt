@@ -18,6 +18,8 @@ pub(crate) enum Keys {
     Long,
     /// `{"": i / 300}`.
     Equal,
+    /// `{"": i / 3 * 2}`: each even number three times, and no odd one.
+    Threes,
 }
 
 // `{"": i}`.
@@ -72,6 +74,7 @@ pub(crate) fn key(alloc: Global, keys: Keys, i: u32) -> Result<Doc, NoMemory>
         Keys::Numbers => key_of(alloc, &number(i)),
         Keys::Long => key_of(alloc, &long(i)),
         Keys::Equal => key_of(alloc, &number(i / 300)),
+        Keys::Threes => key_of(alloc, &number(i / 3 * 2)),
     }
 }
 

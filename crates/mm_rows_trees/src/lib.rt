@@ -5,9 +5,13 @@
 #![tactic(auto)]
 
 #[cfg(test)]
+mod answers;
+#[cfg(test)]
 mod drill;
 #[cfg(test)]
 mod files;
+#[cfg(test)]
+mod filling;
 #[cfg(test)]
 mod index;
 #[cfg(test)]
@@ -16,3 +20,5 @@ mod keys;
 mod names;
 #[cfg(test)]
 mod orders;
+#[cfg(test)]
+mod refusals;
