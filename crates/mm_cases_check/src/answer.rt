@@ -4,7 +4,7 @@ use crate::changes::damage;
 use crate::drawing::drawn;
 use crate::finding::told;
 use crate::loading::{Files, is_inside};
-use crate::making::{large, small};
+use crate::making::{fresh, many, small};
 use crate::numbers::{file, number, word};
 use anyhow::{Result, bail};
 use mm_views::Views;
@@ -25,8 +25,9 @@ pub(crate) fn answer(alloc: Global, files: &mut Files, line: &str) -> Result<Str
 // What the operation of this name gives.
 fn called(alloc: Global, files: &mut Files, name: &str, rest: &str) -> Result<String> {
     match name {
+        "new" => begin_new(alloc, files),
         "small" => begin_small(alloc, files),
-        "large" => begin_large(alloc, files, rest),
+        "many" => begin_many(alloc, files, rest),
         "damage" => damage(alloc, files, rest),
         "drawn" => drawn(alloc, files, rest),
         _ => asked(alloc, files.views(), name, rest),
@@ -49,15 +50,24 @@ fn begin(alloc: Global, files: &mut Files, made: &Views) -> Result<String> {
     told(alloc, files.views())
 }
 
+// `new`: makes a new database, and what a check says of it.
+fn begin_new(alloc: Global, files: &mut Files) -> Result<String> {
+    let made = fresh(alloc)?;
+    begin(alloc, files, &made)
+}
+
 // `small`: makes the small database, and what a check says of it.
 fn begin_small(alloc: Global, files: &mut Files) -> Result<String> {
     let made = small(alloc)?;
     begin(alloc, files, &made)
 }
 
-// `large COUNT`: makes a database with so many documents, and what a check says of it.
-fn begin_large(alloc: Global, files: &mut Files, text: &str) -> Result<String> {
-    let made = large(alloc, number(text)?)?;
+// `many COUNT LENGTH`: makes a database with so many documents of a length, and what a check says of it.
+fn begin_many(alloc: Global, files: &mut Files, text: &str) -> Result<String> {
+    let mut words = text.split_whitespace();
+    let count = number(word(words.next())?)?;
+    let len = number(word(words.next())?)?;
+    let made = many(alloc, count, len)?;
     begin(alloc, files, &made)
 }
 

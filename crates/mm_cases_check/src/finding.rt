@@ -39,7 +39,10 @@ fn found(alloc: Global, finding: Finding) -> Result<String, AllocError> {
 // What is told where nothing is found.
 fn reported(alloc: Global, report: Report) -> Result<String, AllocError> {
     let (files, collections, documents) = (report.files, report.collections, report.documents);
-    format!(in alloc; "files {files} collections {collections} documents {documents}")
+    let (indexes, buckets) = (report.indexes, report.buckets);
+    format!(in alloc;
+        "files {files} collections {collections} documents {documents} indexes {indexes} buckets {buckets}"
+    )
 }
 
 /// What a check says of the files.

@@ -1,4 +1,4 @@
-//! Checks the files of a small database and of a large one, whole and damaged, as lines of standard input ask.
+//! Checks the files of a database, whole and damaged, as lines of standard input ask.
 //!
 //! A line is the name of an operation and its operands, each parted by a blank. Each line is answered by one line: by what the call gives,
 //! or by the text of its fault. An empty line and a comment, which begins with `#`, are given back as they are. The stored input and output

@@ -1,6 +1,6 @@
 //! The databases that are checked. Payloads that aren't looked into yet are zeros.
 
-ghost use Rattle.std.specs.Prelude.{OnOk, IfOk};
+ghost use Rattle.std.specs.Prelude.{◌≤◌, length, OnOk};
 ghost use Rattle.mm_cases_check.specs.Drafted.{AreGood};
 
 use crate::calls::{begun, dropped, freed, put};
@@ -135,30 +135,37 @@ fn fill_small(draft: &mut Draft) -> Result<(), SpaceFault>
     come_and_go(draft)
 }
 
-// So many documents, each with zeros behind it up to 200 bytes.
-fn put_many(draft: &mut Draft, count: u32) -> Result<(), SpaceFault>
-    requires { AreGood draft.old.image }
+// So many documents, each in front of a payload.
+fn put_many(draft: &mut Draft, count: u32, payload: &mut [u8]) -> Result<(), SpaceFault>
+    requires good { AreGood draft.old.image }
+    requires long { DOC_LEN ≤ length payload.old }
     ensures { OnOk result (AreGood draft.new.image) }
 {
-    let mut payload = [0; 200];
     for number in 0..count {
         payload[..DOC_LEN].copy_from_slice(&doc(number));
-        put_doc(draft, &payload)?;
+        put_doc(draft, payload)?;
     }
     Ok(())
 }
 
-fn fill_large(draft: &mut Draft, count: u32) -> Result<(), SpaceFault>
-    requires { AreGood draft.old.image }
+fn fill_many(draft: &mut Draft, count: u32, payload: &mut [u8]) -> Result<(), SpaceFault>
+    requires good { AreGood draft.old.image }
+    requires long { DOC_LEN ≤ length payload.old }
 {
     put_front(draft)?;
-    put_many(draft, count)
+    put_many(draft, count, payload)
 }
 
 // The views with what a draft made.
 fn kept(mut draft: Draft) -> Result<Views, SpaceFault> {
     draft.reserve()?;
     Ok(draft.adopt())
+}
+
+/// A new database.
+pub(crate) fn fresh(alloc: Global) -> Result<Views, SpaceFault> {
+    let draft = begun(alloc)?;
+    kept(draft)
 }
 
 /// A database in file 0: five documents of a collection, of which two are freed, two extents of its index, and two that are free.
@@ -168,9 +175,12 @@ pub(crate) fn small(alloc: Global) -> Result<Views, SpaceFault> {
     kept(draft)
 }
 
-/// A database with so many documents.
-pub(crate) fn large(alloc: Global, count: u32) -> Result<Views, SpaceFault> {
+/// A database with so many documents, each with zeros behind it up to a length.
+pub(crate) fn many(alloc: Global, count: u32, len: u32) -> Result<Views, SpaceFault> {
+    let Ok(mut payload) = vec![in alloc; 0; DOC_LEN.max(len as usize)] else {
+        return Err(SpaceFault::NoMemory);
+    };
     let mut draft = begun(alloc)?;
-    fill_large(&mut draft, count)?;
+    fill_many(&mut draft, count, &mut payload)?;
     kept(draft)
 }
