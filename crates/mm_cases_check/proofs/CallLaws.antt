@@ -1,4 +1,4 @@
--- What the tests' helpers ask for and give.
+-- What the calls ask for and give.
 use Rattle.std.proofs.Common.{◌≡◌, ℕ, ℤ, pos, true, false, List, Option, Some, None, refl, sym, ◌∙◌, ap, subst}
 use Rattle.std.specs.Prelude.{IfSome, is_some}
 use Rattle.std.specs.Option.{option_map}
@@ -7,7 +7,6 @@ use Rattle.std.specs.Ordering.{nat_cmp}
 use Rattle.mm_base.specs.declared.place.DiskLoc.{DiskLoc}
 use Rattle.mm_ranges.specs.Overlay.{Image}
 use Rattle.mm_views.specs.State.{State, Drafting, no_views, drafting_of}
-use Rattle.mm_nstable.specs.Nodes.{node_at, name_in, is_used, SameNames}
 use Rattle.mm_nstable.specs.Table.{Held, table_of}
 use Rattle.mm_nstable.specs.FreeChain.{IsFreeName}
 use Rattle.mm_links.specs.Links.{Place, has, first_of, next_in}
@@ -27,13 +26,6 @@ no_files d v e g f = ap (λ (x : Drafting). get x.image f) e ∙ ap (λ (x : Sta
 
 pub is_node : (image : Image) (node : ℕ) → IsOfRecords image node → (free : List ℕ) (s : Shape) → Stands image free s → IsNode image free node
 is_node image node o free s st = record { used = o.used; isnt_free = λ e. o.named (subst (λ (m : List ℕ). IsFreeName m) (sym e) st.free_chain.1.node.named) }
-
--- the node stays one of records where names stay
-pub names_kept : (old new : Image) (node : ℕ) → SameNames (ns_in old) (ns_in new) → IsOfRecords old node → IsOfRecords new node
-names_kept old new node n o = record { used = n.used node ∙ o.used; named = λ f. o.named (subst (λ (m : List ℕ). IsFreeName m) (n.names node o.used) f) }
-
-pub ns_kept : (old new : Image) (node : ℕ) → ns_in new ≡ ns_in old → IsOfRecords old node → IsOfRecords new node
-ns_kept old new node e o = record { used = ap (λ (ns : List ℕ). is_used ns node) e ∙ o.used; named = λ f. o.named (subst (λ (ns : List ℕ). IsFreeName (name_in (node_at ns node))) e f) }
 
 -- what stands on a namespace's walk is a record of it
 pub on_walk : (image : Image) (free : List ℕ) (s : Shape) (node : ℕ) (q : Place) → Stands image free s → IsNode image free node → has (walk s (name_at image node)) q ≡ true
