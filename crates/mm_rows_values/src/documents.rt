@@ -1,8 +1,7 @@
 //! Documents that are built and copied.
 
 use crate::making::{list_of, one, put};
-use mm_bson::{Doc, DocList, Text, Value, ValueList, class};
-use mm_keys::KeySpec;
+use mm_bson::{Doc, DocList, Text, Value, ValueList};
 use std::alloc::{AllocError, Global};
 use std::test::Fail;
 
@@ -30,53 +29,36 @@ fn nested(alloc: Global) -> Result<Doc, AllocError> {
     Ok(doc)
 }
 
-#[test]
-fn builds(rt: HostRuntime) -> Result<(), Fail> {
-    let doc = nested(rt.alloc())?;
-    assert_eq!(rt; doc.bytes(), NESTED);
-    Ok(())
+/// The bytes of the documents of a list, one behind the other.
+fn bytes_of(alloc: Global, documents: &DocList) -> Result<Vec<u8>, AllocError> {
+    let mut bytes = Vec::new(alloc);
+    for doc in documents.documents() {
+        bytes.extend_from_slice(doc.bytes())?;
+    }
+    Ok(bytes)
 }
 
-/// A list of one document, copied.
-fn copied(alloc: Global) -> Result<DocList, AllocError> {
+/// The bytes of a list of this one document, copied.
+fn copied(alloc: Global) -> Result<Vec<u8>, AllocError> {
     let mut documents = DocList::new(alloc);
     documents.push(nested(alloc)?)?;
-    documents.copy()
+    bytes_of(alloc, &documents.copy()?)
 }
 
 #[test]
-fn copies(rt: HostRuntime) -> Result<(), Fail> {
-    let again = copied(rt.alloc())?;
-    assert_eq!(rt; again.documents().len(), 1);
-    for doc in again.documents() {
-        assert_eq!(rt; doc.bytes(), NESTED);
-        assert_eq!(rt; doc.levels(), 3);
-    }
-    Ok(())
-}
-
-/// The bytes of the specification {"a": -1}, copied.
-fn copied_spec(alloc: Global) -> Result<usize, Fail> {
-    let doc = one(alloc, "a", Value::Int32(-1))?;
-    let spec = KeySpec::from_doc(alloc, &doc)?.copy()?;
-    Ok(spec.document().bytes().len())
-}
-
-#[test]
-fn copies_specifications(rt: HostRuntime) -> Result<(), Fail> {
-    assert_eq!(rt; copied_spec(rt.alloc())?, 12);
+fn builds_and_copies(rt: HostRuntime) -> Result<(), Fail> {
+    let bytes = copied(rt.alloc())?;
+    assert_eq!(rt; bytes.as_slice(), NESTED);
     Ok(())
 }
 
 /// Whether values may go to another thread, and be read by several.
-fn crosses<T: Send + Sync>(_value: &T) {}
+fn crosses<T: Send + Sync>() {}
 
 #[test]
-fn threads(rt: HostRuntime) -> Result<(), Fail> {
-    crosses(&Doc::new(rt.alloc())?);
-    crosses(&DocList::new(rt.alloc()));
-    let array = Value::Array(ValueList::new(rt.alloc())?);
-    crosses(&array);
-    assert_eq!(rt; class(&array), 5);
-    Ok(())
+fn threads() {
+    crosses::<Doc>();
+    crosses::<DocList>();
+    crosses::<Value>();
+    crosses::<ValueList>();
 }

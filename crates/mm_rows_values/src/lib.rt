@@ -10,8 +10,6 @@ mod documents;
 #[cfg(test)]
 mod laws;
 #[cfg(test)]
-mod lengths;
-#[cfg(test)]
-mod levels;
+mod limits;
 #[cfg(test)]
 mod making;

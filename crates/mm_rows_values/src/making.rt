@@ -3,14 +3,14 @@
 use mm_bson::{Blob, Doc, Text, Value, ValueList};
 use std::alloc::{AllocError, Global};
 
-/// Puts an element behind the others of a document, if it fits, and says whether it did.
-pub fn put(alloc: Global, doc: &mut Doc, name: &str, value: Value) -> Result<bool, AllocError> {
+/// Puts an element behind the others of a document, if it fits.
+pub fn put(alloc: Global, doc: &mut Doc, name: &str, value: Value) -> Result<(), AllocError> {
     let name = Text::from_str(alloc, name)?;
-    if !name.has_no_zero() || value.levels() >= 100 || !doc.fits(name.as_bytes(), &value) {
-        return Ok(false);
+    let is_right = name.has_no_zero() && value.levels() < 100;
+    if is_right && doc.fits(name.as_bytes(), &value) {
+        doc.push(name, value)?;
     }
-    doc.push(name, value)?;
-    Ok(true)
+    Ok(())
 }
 
 /// The document of one element, if it fits, or an empty one.
