@@ -92,10 +92,8 @@ fn put_lines(out: &mut Vec<u8>, lines: &[u32]) -> Result<(), AllocError>
     ensures ok { OnOk result (out.new.items ≡ out.old.items ++ flat_map entry_text lines.now) }
     ensures err { OnErr result (Grows out.old.items out.new.items) }
 {
-    let mut rest = lines;
-    'lines: while let [first, others @ ..] = rest {
-        put_counted(out, b" ", u64::from(*first))?;
-        rest = others;
+    for line in lines {
+        put_counted(out, b" ", u64::from(*line))?;
     }
     Ok(())
 }
@@ -128,10 +126,8 @@ fn put_databases(out: &mut Vec<u8>, entries: &[(Name, LineList)]) -> Result<(), 
     ensures ok { OnOk result (out.new.items ≡ out.old.items ++ flat_map database_text entries.now) }
     ensures err { OnErr result (Grows out.old.items out.new.items) }
 {
-    let mut rest = entries;
-    'databases: while let [first, others @ ..] = rest {
-        put_database(out, &first.0, &first.1)?;
-        rest = others;
+    for entry in entries {
+        put_database(out, &entry.0, &entry.1)?;
     }
     Ok(())
 }

@@ -26,10 +26,8 @@ fn put_documents(out: &mut Vec<u8>, documents: &[Doc]) -> Result<(), AllocError>
     ensures ok { OnOk result (out.new.items ≡ out.old.items ++ flat_map document_text documents.now) }
     ensures err { OnErr result (Grows out.old.items out.new.items) }
 {
-    let mut rest = documents;
-    'documents: while let [first, others @ ..] = rest {
-        put_document(out, first)?;
-        rest = others;
+    for document in documents {
+        put_document(out, document)?;
     }
     Ok(())
 }

@@ -78,14 +78,12 @@ fn first_line(bytes: &[u8]) -> (&[u8], &[u8])
 fn is_skipped(line: &[u8]) -> bool
     ensures { result ≡ is_skipped_line line.now }
 {
-    let mut rest = line;
-    'spaces: while let [0x20, others @ ..] = rest {
-        rest = others;
+    for byte in line {
+        if *byte != b' ' {
+            return *byte == b'#';
+        }
     }
-    match rest {
-        [first, ..] => *first == b'#',
-        [] => true,
-    }
+    true
 }
 
 /// What line `line` asks for, if it isn't skipped. It stands behind `at` bytes

@@ -43,10 +43,8 @@ fn put_inside(out: &mut Vec<u8>, text: &[u8]) -> Result<(), AllocError>
     ensures ok { OnOk result (out.new.items ≡ out.old.items ++ flat_map written_byte text.now) }
     ensures err { OnErr result (Grows out.old.items out.new.items) }
 {
-    let mut rest = text;
-    'bytes: while let [first, others @ ..] = rest {
-        put_byte(out, *first)?;
-        rest = others;
+    for byte in text {
+        put_byte(out, *byte)?;
     }
     Ok(())
 }
