@@ -1,25 +1,22 @@
 -- What a condition says of a value that is no array.
-use Rattle.std.proofs.Common.{◌≡◌, ◌≢◌, ℕ, pos, negsuc, Bool, true, false, List, [], Option, Some, None, inl, inr, refl, sym, ap, ◌∙◌, subst}
-use Rattle.std.specs.Prelude.{MatchBool, is_some, option_map, if◌then◌else◌}
-use Rattle.std.specs.Str.{bytes_eq}
-use Rattle.std.proofs.lemmas.Slice.Eq.{bytes_eq-Decides}
+use Rattle.std.proofs.Common.{◌≡◌, ◌≢◌, Bool, true, false, Option, Some, None, inl, inr, refl, sym, ap, ◌∙◌, subst}
+use Rattle.std.specs.Prelude.{MatchBool, if◌then◌else◌}
 use Rattle.std.specs.declared.cmp.Ordering.{Ordering}
 use Rattle.std.specs.declared.cmp.Ordering.TheVariants.{Less, Equal, Greater}
-use Rattle.std.specs.Ordering.{is_eq, ordering_then, ordering_reverse}
-use Rattle.mm_bson.specs.Tree.{Tree, min_key, null, int32, document, array, boolean, max_key, Elements, no_elements, element, Values, no_values, item}
+use Rattle.std.specs.Ordering.{is_eq, ordering_reverse}
+use Rattle.mm_bson.specs.Tree.{Tree, null, document, array, boolean, Elements, no_elements, element, Values, no_values, item}
 use Rattle.mm_bson.specs.Order.{class, compare}
-use Rattle.mm_bson.specs.Path.{value_at_path}
 use Rattle.mm_bson.proofs.Orders.{compare_total}
-use Rattle.mm_keys.specs.Key.{or_null, keyed, key, IsArray, HasKey}
+use Rattle.mm_keys.specs.Key.{IsArray}
 use Rattle.mm_query.specs.declared.operator.Operator.{Operator}
 use Rattle.mm_query.specs.declared.operator.Operator.TheVariants.{Gt, Gte, Lt, Lte, In, Exists}
 use Rattle.mm_query.specs.declared.side.Side.{Side}
 use Rattle.mm_query.specs.declared.side.Side.TheVariants.{Low, High}
-use Rattle.mm_query.specs.Form.{or, operator_of, has_operators, is_and, is_or, is_array}
-use Rattle.mm_query.specs.Match.{SomeOf, SomeItem, ItOrItem, Equals, EqualsSome, is_so, Stands, HoldsBy, AllHold, MeetsAt, Matches, AllMatch, EachMatches, SomeMatch, Meets}
-use Rattle.mm_query.specs.Bounds.{is_at, equal_to, from_side, outer, outer_of, opposite, extreme, tighter, nothing, class_end, range_limit, weak_limit, strict_limit, unless_array, outermost, or_nothing, in_limit, exists_limit, limit_by, limit_among, limit_in, limit_at, limit_inside, limit_each, first_equal, value_bound, turned, extremes, bound, Within, Bound}
+use Rattle.mm_query.specs.Form.{operator_of, has_operators}
+use Rattle.mm_query.specs.Match.{SomeOf, SomeItem, ItOrItem, Equals, EqualsSome, is_so, Stands, HoldsBy, AllHold, MeetsAt}
+use Rattle.mm_query.specs.Bounds.{from_side, outer, outer_of, opposite, tighter, nothing, class_end, range_limit, weak_limit, strict_limit, unless_array, outermost, in_limit, exists_limit, limit_by, limit_among, limit_in}
 use Rattle.mm_query.proofs.Outer.{behind, equal_pair, itself_behind, outer_first, outer_of_keeps}
-use Rattle.mm_query.proofs.ClassEnds.{then_within, end_within}
+use Rattle.mm_query.proofs.ClassEnds.{end_within}
 
 -- ---- conditions on a value that is no array
 

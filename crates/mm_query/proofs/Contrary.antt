@@ -1,12 +1,10 @@
 -- Operators and their contraries.
 use Rattle.std.proofs.Common.{◌≡◌, ℕ, Bool, true, false, List, refl, sym, ap, ◌∙◌}
-use Rattle.std.specs.Prelude.{◌↔◌, codes}
-use Rattle.std.specs.Str.{bytes_eq}
+use Rattle.std.specs.Prelude.{codes}
 use Rattle.std.proofs.lemmas.Slice.Eq.{bytes_eq-Decides}
-use Rattle.mm_bson.specs.Tree.{Tree, document, array, Elements, no_elements, element, Values}
-use Rattle.mm_query.specs.Form.{has_dollar, has_operators, is_and, is_or}
-use Rattle.mm_query.specs.Match.{Matches}
-use Rattle.mm_query.specs.Laws.{asks, is_plain, NinIsContrary, NeIsContrary}
+use Rattle.mm_bson.specs.Tree.{document}
+use Rattle.mm_query.specs.Form.{has_dollar, is_and, is_or}
+use Rattle.mm_query.specs.Laws.{NinIsContrary, NeIsContrary}
 
 pub no_and : (path : List ℕ) → has_dollar path ≡ false → is_and path ≡ false
 no_and path plain = by (is_and path) refl

@@ -1,10 +1,9 @@
 -- Conditions that are made of a filter's fields, one after the other, and hold one after the other.
-use Rattle.std.proofs.Common.{◌≡◌, ◌↔◌, ℕ, suc, ◌-◌, ◌<◌, ◌≤◌, Bool, true, false, cond, List, [], ◌∷◌, ◌++◌, length, get_or, Option, Some, None, refl, sym, ap, ◌∙◌, arith}
+use Rattle.std.proofs.Common.{◌≡◌, ℕ, Bool, true, false, cond, List, [], ◌∷◌, ◌++◌, Option, Some, None, refl, sym, ap, ◌∙◌}
 use Rattle.std.specs.Prelude.{if◌then◌else◌, codes}
 use Rattle.std.specs.Str.{bytes_eq}
-use Rattle.std.proofs.lemmas.List.{take_all}
 use Rattle.std.proofs.lemmas.Slice.Eq.{bytes_eq-Decides}
-use Rattle.mm_bson.specs.Tree.{Tree, document, Elements, no_elements, element, append, Values, no_values, item, append_values, depth}
+use Rattle.mm_bson.specs.Tree.{Tree, document, Elements, no_elements, element, append, Values, no_values, item, append_values}
 use Rattle.mm_bson.specs.View.{tree}
 use Rattle.mm_bson.proofs.Loop.{append_assoc}
 use Rattle.mm_query.specs.declared.fault.FilterFault.{FilterFault}
@@ -14,12 +13,8 @@ use Rattle.mm_query.specs.declared.operator.Operator.TheVariants.{Gt, Gte, Lt, L
 use Rattle.mm_query.specs.declared.kept.Test.{Test}
 use Rattle.mm_query.specs.declared.kept.Condition.{Condition}
 use Rattle.mm_query.specs.declared.kept.Condition.TheVariants.{At, AllOf, AnyOf}
-use Rattle.mm_query.specs.Form.{or, order_operator, other_operator, operator_of, has_operators, is_and, is_or, are_documents}
-use Rattle.mm_query.specs.Match.{Equals, MeetsAt, AllHold, Matches}
-use Rattle.mm_query.specs.Laws.{is_plain}
-use Rattle.mm_query.specs.Kept.{name_of, tests_of, filters_of, condition_on, conditions_of, IsCondition, AreConditions, Holds, Refuses}
-use Rattle.mm_query.proofs.Contrary.{no_and, no_or}
-use Rattle.mm_query.proofs.Firsts.{others}
+use Rattle.mm_query.specs.Form.{or, order_operator, other_operator, operator_of, are_documents}
+use Rattle.mm_query.specs.Kept.{name_of, tests_of, filters_of, condition_on, conditions_of, IsCondition, AreConditions, Refuses}
 
 -- ---- names of operators
 
@@ -56,12 +51,6 @@ module _ (name : List ℕ) (operator : Operator) where
       by : (o : Option Operator) → order_operator name ≡ o → or o (other_operator name) ≡ Some operator → name_of operator ≡ name
       by None e is = other_named is
       by (Some x) e is = order_named (e ∙ is)
-
-pub and_named : (name : List ℕ) → is_and name ≡ true → codes "$and" ≡ name
-and_named name is = sym ((bytes_eq-Decides name (codes "$and")).0 is)
-
-pub or_named : (name : List ℕ) → is_or name ≡ true → codes "$or" ≡ name
-or_named name is = sym ((bytes_eq-Decides name (codes "$or")).0 is)
 
 -- ---- values that are documents
 
@@ -142,54 +131,3 @@ filter_on fs more f t rest whole grown is told =
     ∙ ap (λ (vs : Values). append_values vs rest) (filters_of-push fs f ∙ ap (λ (u : Tree). append_values (filters_of fs) (item u no_values)) is)
     ∙ append_values-one (filters_of fs) rest t
     ∙ told
-
--- ---- the first of several
-
-others_are : {A : Type 0} (x : A) (xs : List A) → others (x ∷ xs) ≡ xs
-others_are x xs =
-    let n : suc (length xs) - 1 ≡ length xs = omega arith in
-    rw n (take_all (length xs) xs (omega arith))
-
-pub test_is : (first : Test) (xs : List Test) → 0 < length xs → first ≡ get_or xs 0 first → tests_of xs ≡ element (name_of first.operator) (tree first.operand) (tests_of (others xs))
-test_is first [] lt e = absurd (omega arith)
-test_is first (x ∷ xs) lt e = rw (others_are x xs) (ap (λ (y : Test). element (name_of y.operator) (tree y.operand) (tests_of xs)) (sym e))
-
-pub condition_is : (first : Condition) (xs : List Condition) → 0 < length xs → first ≡ get_or xs 0 first → xs ≡ first ∷ others xs
-condition_is first [] lt e = absurd (omega arith)
-condition_is first (x ∷ xs) lt e = rw (others_are x xs) (ap (λ (y : Condition). y ∷ xs) (sym e))
-
-pub filter_is : (first : Elements) (xs : List Elements) → 0 < length xs → first ≡ get_or xs 0 first → filters_of xs ≡ item (document first) (filters_of (others xs))
-filter_is first [] lt e = absurd (omega arith)
-filter_is first (x ∷ xs) lt e = rw (others_are x xs) (ap (λ (y : Elements). item (document y) (filters_of xs)) (sym e))
-
-pub no_test_left : (xs : List Test) → length xs < 1 → tests_of xs ≡ no_elements
-no_test_left [] lt = refl
-no_test_left (x ∷ xs) lt = absurd (omega arith)
-
-pub no_condition_left : (xs : List Condition) → length xs < 1 → conditions_of xs ≡ no_elements
-no_condition_left [] lt = refl
-no_condition_left (x ∷ xs) lt = absurd (omega arith)
-
-pub no_filter_left : (xs : List Elements) → length xs < 1 → filters_of xs ≡ no_values
-no_filter_left [] lt = refl
-no_filter_left (x ∷ xs) lt = absurd (omega arith)
-
--- ---- what conditions ask
-
-pub equality_meets : (u t : Tree) (found : Bool) (P : Type 0) → is_plain u false → P ↔ Equals u t → P ↔ MeetsAt u t found
-equality_meets (document es) t found P plain h = rw plain h
-equality_meets u t found P plain h = h
-
-pub operators_meet : (es : Elements) (t : Tree) (found : Bool) (P : Type 0) → has_operators es ≡ true → P ↔ AllHold es t found → P ↔ MeetsAt (document es) t found
-operators_meet es t found P has h = rw has h
-
-pub first_holds : (c : Condition) (es d : Elements) → IsCondition c → Matches (condition_on c es) d ↔ (Holds c d × Matches es d)
-first_holds (At path demand) es d kept = rw (no_and path kept.0, no_or path kept.0) (λ h. h, λ h. h)
-first_holds (AllOf fs) es d kept = (λ h. h, λ h. h)
-first_holds (AnyOf fs) es d kept = (λ h. h, λ h. h)
-
--- a condition is no deeper than the filter
-pub condition_depth : (c : Condition) (es : Elements) → (depth (condition_on c no_elements) ≤ depth (condition_on c es)) × (depth es ≤ depth (condition_on c es))
-condition_depth (At path demand) es = (omega arith, omega arith)
-condition_depth (AllOf fs) es = (omega arith, omega arith)
-condition_depth (AnyOf fs) es = (omega arith, omega arith)

@@ -1,6 +1,6 @@
 -- A limit is no deeper than the filter, or than an end of a class.
-use Rattle.std.proofs.Common.{◌≡◌, ℕ, ◌≤◌, ◌<◌, Bool, true, false, List, Option, Some, None, refl, sym, ap, ◌∙◌, subst, arith}
-use Rattle.std.specs.Prelude.{option_map, if◌then◌else◌, max}
+use Rattle.std.proofs.Common.{◌≡◌, ℕ, ◌≤◌, ◌<◌, Bool, true, false, List, Option, Some, None, sym, ap, ◌∙◌, arith}
+use Rattle.std.specs.Prelude.{option_map, if◌then◌else◌}
 use Rattle.std.specs.Borrow.{Bor}
 use Rattle.std.specs.Ordering.{is_eq}
 use Rattle.mm_bson.specs.declared.doc.Value.{Value}
@@ -12,7 +12,7 @@ use Rattle.mm_query.specs.declared.operator.Operator.TheVariants.{Gt, Gte, Lt, L
 use Rattle.mm_query.specs.declared.side.Side.{Side}
 use Rattle.mm_query.specs.declared.side.Side.TheVariants.{Low, High}
 use Rattle.mm_query.specs.Form.{or, operator_of, has_operators, is_and}
-use Rattle.mm_query.specs.Bounds.{is_at, equal_to, outer_of, opposite, tighter, nothing, least, greatest, class_end, range_limit, weak_limit, strict_limit, unless_array, outermost, or_nothing, in_limit, exists_limit, limit_by, limit_among, limit_in, limit_at, limit_inside, limit_each, first_equal, value_bound}
+use Rattle.mm_query.specs.Bounds.{is_at, equal_to, outer_of, opposite, nothing, least, greatest, class_end, range_limit, weak_limit, strict_limit, unless_array, outermost, or_nothing, in_limit, exists_limit, limit_by, limit_among, limit_in, limit_at, limit_inside, limit_each, first_equal, value_bound}
 use Rattle.mm_query.proofs.Outer.{outer_of_keeps}
 
 nothing_flat : (side : Side) → tree_depth (nothing side) ≤ 0

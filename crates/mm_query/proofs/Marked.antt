@@ -1,5 +1,5 @@
 -- The first wrong operator is the first place that isn't right.
-use Rattle.std.proofs.Common.{◌≡◌, ◌↔◌, ℕ, Bool, true, false, cond, List, [], ◌∷◌, ◌++◌, Option, Some, None, refl, sym, ap, ◌∙◌}
+use Rattle.std.proofs.Common.{◌≡◌, ℕ, Bool, true, false, cond, List, [], ◌∷◌, ◌++◌, Option, Some, None, refl, sym, ap, ◌∙◌}
 use Rattle.std.specs.Prelude.{◌||◌, if◌then◌else◌}
 use Rattle.mm_query.specs.declared.operator.Operator.{Operator}
 use Rattle.mm_bson.specs.Tree.{Tree, document, array, Elements, no_elements, element, Values, no_values, item}

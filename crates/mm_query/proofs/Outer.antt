@@ -79,9 +79,6 @@ left Less t u h = refl
 left Equal t u h = refl
 left Greater t u h = absurd (h refl)
 
-not_greater : (o : Ordering) → (o ≡ Less) → o ≢ Greater
-not_greater o is e = cc
-
 outer_assoc : (side : Side) (t u w : Tree) → outer side (outer side t u) w ≡ outer side t (outer side u w)
 outer_assoc side t u w = by (from_side side t u) (from_side side u w) refl refl
   where

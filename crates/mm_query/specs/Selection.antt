@@ -6,7 +6,7 @@ use Rattle.mm_bson.specs.Path.{value_at_path}
 use Rattle.mm_bson.specs.Order.{class, compare}
 use Rattle.mm_keys.specs.Key.{or_null}
 use Rattle.mm_query.specs.declared.operator.Operator.{Operator}
-use Rattle.mm_query.specs.declared.operator.Operator.TheVariants.{Gt, Gte, Lt, Lte, Ne, In, Nin, Exists}
+use Rattle.mm_query.specs.declared.operator.Operator.TheVariants.{Ne, In, Nin, Exists}
 use Rattle.mm_query.specs.Form.{operator_of, has_operators, is_and, is_or}
 use Rattle.mm_query.specs.Match.{is_so}
 

@@ -46,12 +46,10 @@ fn equal_at<'a>(path: &[u8], field: &'a Element) -> Option<&'a Value>
 fn first_equal<'a>(path: &[u8], fields: &'a [Element]) -> Option<&'a Value>
     ensures { option_map (λ t. tree t.now) result ≡ first_equal_at path.now (elements_of fields.now) }
 {
-    let mut rest = fields;
-    while let [first, others @ ..] = rest {
-        if let Some(value) = equal_at(path, first) {
+    for field in fields {
+        if let Some(value) = equal_at(path, field) {
             return Some(value);
         }
-        rest = others;
     }
     None
 }
@@ -113,11 +111,9 @@ fn filled(alloc: Global, side: Side, value: &Value, fields: &[Element]) -> Resul
     let mut key = Doc::new(alloc)?;
     let first = value.copy()?;
     put(alloc, &mut key, first)?;
-    let mut rest = fields;
-    while let [first, others @ ..] = rest {
-        let last = extreme(turned(&first.value, side));
+    for field in fields {
+        let last = extreme(turned(&field.value, side));
         put(alloc, &mut key, last)?;
-        rest = others;
     }
     Ok(key)
 }

@@ -143,12 +143,10 @@ fn one_holds(test: &Test, value: &ValueRef<'_>, found: bool) -> bool
 fn all_hold(tests: &[Test], value: &ValueRef<'_>, found: bool) -> bool
     ensures { IsTrue result ↔ AllHold (tests_of tests.now) (tree_in value.now) found }
 {
-    let mut rest = tests;
-    while let [first, others @ ..] = rest {
-        if !one_holds(first, value, found) {
+    for test in tests {
+        if !one_holds(test, value, found) {
             return false;
         }
-        rest = others;
     }
     true
 }

@@ -43,12 +43,10 @@ fn add_tests(tests: &mut Vec<Test>, fields: &[Element]) -> Result<(), FilterFaul
     ensures ok { OnOk result (tests_of tests.new.items ≡ append (tests_of tests.old.items) (elements_of fields.now)) }
     ensures form { Passes result (wrong_operators (elements_of fields.now)) }
 {
-    let mut rest = fields;
-    while let [first, others @ ..] = rest {
+    for field in fields {
         tests.reserve(1)?;
-        let test = test_of(first)?;
+        let test = test_of(field)?;
         tests.push_reserved(test);
-        rest = others;
     }
     Ok(())
 }
@@ -82,13 +80,11 @@ fn demand(alloc: Global, value: &Value) -> Result<Demand, FilterFault>
 fn are_documents(values: &[Value]) -> bool
     ensures { result ≡ are_documents_in (values_of values.now) }
 {
-    let mut rest = values;
-    while let [first, others @ ..] = rest {
-        match first {
+    for value in values {
+        match value {
             Value::Document(_) => {}
             _ => return false,
         }
-        rest = others;
     }
     true
 }
@@ -131,12 +127,10 @@ fn add_filters(
     ensures ok { OnOk result (filters_of filters.new.items ≡ append_values (filters_of filters.old.items) (values_of values.now)) }
     ensures form { Passes result (wrong_filters (values_of values.now)) }
 {
-    let mut rest = values;
-    'filters: while let [first, others @ ..] = rest {
+    'filters: for value in values {
         filters.reserve(1)?;
-        let filter = filter_in(alloc, first)?;
+        let filter = filter_in(alloc, value)?;
         filters.push_reserved(filter);
-        rest = others;
     }
     Ok(())
 }
@@ -194,12 +188,10 @@ fn add_conditions(
     ensures kept { OnOk result (AreConditions conditions.new.items) }
     ensures form { Passes result (wrong_filter (elements_of fields.now)) }
 {
-    let mut rest = fields;
-    'fields: while let [first, others @ ..] = rest {
+    'fields: for field in fields {
         conditions.reserve(1)?;
-        let one = condition(alloc, first)?;
+        let one = condition(alloc, field)?;
         conditions.push_reserved(one);
-        rest = others;
     }
     Ok(())
 }

@@ -93,10 +93,8 @@ fn limit_among<'a>(side: Side, operators: &'a [Element], ends: &'a Ends) -> Opti
     ensures { option_map (λ t. tree t.now) result ≡ limit_among_in side (elements_of operators.now) }
 {
     let mut best = None;
-    let mut rest = operators;
-    while let [first, others @ ..] = rest {
-        best = tighter(side, best, limit_of(side, first, ends));
-        rest = others;
+    for operator in operators {
+        best = tighter(side, best, limit_of(side, operator, ends));
     }
     best
 }
@@ -148,10 +146,8 @@ pub(crate) fn limit_at<'a>(
     ensures { option_map (λ t. tree t.now) result ≡ limit_at_path side path.now (elements_of fields.now) }
 {
     let mut best = None;
-    let mut rest = fields;
-    'fields: while let [first, others @ ..] = rest {
-        best = tighter(side, best, field_limit(side, path, first, ends));
-        rest = others;
+    'fields: for field in fields {
+        best = tighter(side, best, field_limit(side, path, field, ends));
     }
     best
 }
@@ -172,10 +168,8 @@ fn limit_each<'a>(side: Side, path: &[u8], values: &'a [Value], ends: &'a Ends) 
     ensures { option_map (λ t. tree t.now) result ≡ limit_each_of side path.now (values_of values.now) }
 {
     let mut best = None;
-    let mut rest = values;
-    'each: while let [first, others @ ..] = rest {
-        best = tighter(side, best, limit_inside(side, path, first, ends));
-        rest = others;
+    'each: for value in values {
+        best = tighter(side, best, limit_inside(side, path, value, ends));
     }
     best
 }

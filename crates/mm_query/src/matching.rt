@@ -38,12 +38,10 @@ fn all_hold(conditions: &[Condition], doc: &DocRef<'_>) -> bool
     requires { AreConditions conditions.now }
     ensures { IsTrue result ↔ Matches (conditions_of conditions.now) doc.now }
 {
-    let mut rest = conditions;
-    'conditions: while let [first, others @ ..] = rest {
-        if !holds(first, doc) {
+    'conditions: for condition in conditions {
+        if !holds(condition, doc) {
             return false;
         }
-        rest = others;
     }
     true
 }
@@ -60,12 +58,10 @@ pub(crate) fn matches(filter: &Conjunction, doc: &DocRef<'_>) -> bool
 fn each_matches(filters: &[Conjunction], doc: &DocRef<'_>) -> bool
     ensures { IsTrue result ↔ EachMatches (filters_of filters.now) doc.now }
 {
-    let mut rest = filters;
-    'each: while let [first, others @ ..] = rest {
-        if !matches(first, doc) {
+    'each: for filter in filters {
+        if !matches(filter, doc) {
             return false;
         }
-        rest = others;
     }
     true
 }
@@ -74,12 +70,10 @@ fn each_matches(filters: &[Conjunction], doc: &DocRef<'_>) -> bool
 fn one_matches(filters: &[Conjunction], doc: &DocRef<'_>) -> bool
     ensures { IsTrue result ↔ OneMatches (filters_of filters.now) doc.now }
 {
-    let mut rest = filters;
-    'one: while let [first, others @ ..] = rest {
-        if matches(first, doc) {
+    'one: for filter in filters {
+        if matches(filter, doc) {
             return true;
         }
-        rest = others;
     }
     false
 }

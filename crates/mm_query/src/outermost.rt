@@ -64,10 +64,8 @@ pub(crate) fn outermost(side: Side, values: &[Value]) -> Option<&Value>
     ensures { option_map (λ t. tree t.now) result ≡ outermost_among side (values_of values.now) }
 {
     let mut end = None;
-    let mut rest = values;
-    while let [first, further @ ..] = rest {
-        end = outer_of(side, end, unless_array(first));
-        rest = further;
+    for value in values {
+        end = outer_of(side, end, unless_array(value));
     }
     end
 }

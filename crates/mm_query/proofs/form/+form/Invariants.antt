@@ -1,4 +1,4 @@
-use Rattle.std.proofs.Common.{◌≡◌, ◌+◌, ◌*◌, ◌≤◌, true, length}
+use Rattle.std.proofs.Common.{◌≡◌, ◌+◌, ◌*◌, ◌≤◌, true, drop}
 use Rattle.mm_bson.specs.Tree.{tree_depth, depth, append, values_depth, append_values}
 use Rattle.mm_bson.specs.View.{tree, elements_of, values_of}
 use Rattle.mm_query.specs.Form.{are_documents, wrong_filter, wrong_filters}
@@ -25,22 +25,16 @@ decreases-conjunction l = 6 * depth (elements_of l.fields.now) + 5
 
 abbrev pub invariant-add_filters-filters : goal.invariant-add_filters-filters
 invariant-add_filters-filters l = record {
-  parts : append_values (filters_of l.filters.items) (values_of l.rest) ≡ append_values (filters_of l.fn.filters.items) (values_of l.values);
-  wrong : wrong_filters (values_of l.rest) ≡ wrong_filters (values_of l.values);
-  documents : are_documents (values_of l.rest) ≡ true;
-  shallow : values_depth (values_of l.rest) ≤ values_depth (values_of l.values);
+  parts : append_values (filters_of l.filters.items) (values_of (drop l.value-index l.values)) ≡ append_values (filters_of l.fn.filters.items) (values_of l.values);
+  wrong : wrong_filters (values_of (drop l.value-index l.values)) ≡ wrong_filters (values_of l.values);
+  documents : are_documents (values_of (drop l.value-index l.values)) ≡ true;
+  shallow : values_depth (values_of (drop l.value-index l.values)) ≤ values_depth (values_of l.values);
 }
-
-abbrev pub decreases-add_filters-filters : goal.decreases-add_filters-filters
-decreases-add_filters-filters l = length l.rest
 
 abbrev pub invariant-add_conditions-fields : goal.invariant-add_conditions-fields
 invariant-add_conditions-fields l = record {
-  parts : append (conditions_of l.conditions.items) (elements_of l.rest) ≡ append (conditions_of l.fn.conditions.items) (elements_of l.fields);
-  wrong : wrong_filter (elements_of l.rest) ≡ wrong_filter (elements_of l.fields);
+  parts : append (conditions_of l.conditions.items) (elements_of (drop l.field-index l.fields)) ≡ append (conditions_of l.fn.conditions.items) (elements_of l.fields);
+  wrong : wrong_filter (elements_of (drop l.field-index l.fields)) ≡ wrong_filter (elements_of l.fields);
   kept : AreConditions l.conditions.items;
-  shallow : depth (elements_of l.rest) ≤ depth (elements_of l.fields);
+  shallow : depth (elements_of (drop l.field-index l.fields)) ≤ depth (elements_of l.fields);
 }
-
-abbrev pub decreases-add_conditions-fields : goal.decreases-add_conditions-fields
-decreases-add_conditions-fields l = length l.rest

@@ -1,10 +1,7 @@
-use Rattle.std.proofs.Common.{◌≡◌, length}
+use Rattle.std.proofs.Common.{◌≡◌, drop}
 use Rattle.mm_bson.specs.View.{values_of}
 use Rattle.mm_query.specs.Form.{are_documents}
 use Rattle.mm_query.proofs.form.are_documents.Given as goal
 
-abbrev pub invariant-loop-rest : goal.invariant-loop-rest
-invariant-loop-rest l = are_documents (values_of l.rest) ≡ are_documents (values_of l.values)
-
-abbrev pub decreases-loop-rest : goal.decreases-loop-rest
-decreases-loop-rest l = length l.rest
+abbrev pub invariant-loop-value : goal.invariant-loop-value
+invariant-loop-value l = are_documents (values_of (drop l.value-index l.values)) ≡ are_documents (values_of l.values)

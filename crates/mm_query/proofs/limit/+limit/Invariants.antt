@@ -1,4 +1,4 @@
-use Rattle.std.proofs.Common.{◌≡◌, ◌+◌, ◌*◌, ◌≤◌, length}
+use Rattle.std.proofs.Common.{◌≡◌, ◌+◌, ◌*◌, ◌≤◌, drop}
 use Rattle.std.specs.Prelude.{option_map}
 use Rattle.mm_bson.specs.Tree.{tree_depth, depth, values_depth}
 use Rattle.mm_bson.specs.View.{tree, elements_of, values_of}
@@ -19,18 +19,12 @@ decreases-limit_each l = 4 * values_depth (values_of l.values.now) + 3
 
 abbrev pub invariant-limit_at-fields : goal.invariant-limit_at-fields
 invariant-limit_at-fields l = record {
-  same : tighter l.side (option_map (λ t. tree t.now) l.best) (limit_at l.side l.path (elements_of l.rest)) ≡ limit_at l.side l.path (elements_of l.fields);
-  shallow : depth (elements_of l.rest) ≤ depth (elements_of l.fields);
+  same : tighter l.side (option_map (λ t. tree t.now) l.best) (limit_at l.side l.path (elements_of (drop l.field-index l.fields))) ≡ limit_at l.side l.path (elements_of l.fields);
+  shallow : depth (elements_of (drop l.field-index l.fields)) ≤ depth (elements_of l.fields);
 }
-
-abbrev pub decreases-limit_at-fields : goal.decreases-limit_at-fields
-decreases-limit_at-fields l = length l.rest
 
 abbrev pub invariant-limit_each-each : goal.invariant-limit_each-each
 invariant-limit_each-each l = record {
-  same : tighter l.side (option_map (λ t. tree t.now) l.best) (limit_each l.side l.path (values_of l.rest)) ≡ limit_each l.side l.path (values_of l.values);
-  shallow : values_depth (values_of l.rest) ≤ values_depth (values_of l.values);
+  same : tighter l.side (option_map (λ t. tree t.now) l.best) (limit_each l.side l.path (values_of (drop l.value-index l.values))) ≡ limit_each l.side l.path (values_of l.values);
+  shallow : values_depth (values_of (drop l.value-index l.values)) ≤ values_depth (values_of l.values);
 }
-
-abbrev pub decreases-limit_each-each : goal.decreases-limit_each-each
-decreases-limit_each-each l = length l.rest

@@ -1,4 +1,4 @@
-use Rattle.std.proofs.Common.{◌+◌, ◌*◌, ◌≤◌, length}
+use Rattle.std.proofs.Common.{◌+◌, ◌*◌, ◌≤◌, drop}
 use Rattle.std.specs.Prelude.{◌↔◌}
 use Rattle.mm_bson.specs.Tree.{depth, values_depth, no_elements}
 use Rattle.mm_query.specs.Match.{Matches, EachMatches, OneMatches}
@@ -22,28 +22,19 @@ decreases-one_matches l = 4 * values_depth (filters_of l.filters.now) + 4
 
 abbrev pub invariant-all_hold-conditions : goal.invariant-all_hold-conditions
 invariant-all_hold-conditions l = record {
-  same : Matches (conditions_of l.rest) l.doc ↔ Matches (conditions_of l.conditions) l.doc;
-  kept : AreConditions l.rest;
-  shallow : depth (conditions_of l.rest) ≤ depth (conditions_of l.conditions);
+  same : Matches (conditions_of (drop l.condition-index l.conditions)) l.doc ↔ Matches (conditions_of l.conditions) l.doc;
+  kept : AreConditions (drop l.condition-index l.conditions);
+  shallow : depth (conditions_of (drop l.condition-index l.conditions)) ≤ depth (conditions_of l.conditions);
 }
-
-abbrev pub decreases-all_hold-conditions : goal.decreases-all_hold-conditions
-decreases-all_hold-conditions l = length l.rest
 
 abbrev pub invariant-each_matches-each : goal.invariant-each_matches-each
 invariant-each_matches-each l = record {
-  same : EachMatches (filters_of l.rest) l.doc ↔ EachMatches (filters_of l.filters) l.doc;
-  shallow : values_depth (filters_of l.rest) ≤ values_depth (filters_of l.filters);
+  same : EachMatches (filters_of (drop l.filter-index l.filters)) l.doc ↔ EachMatches (filters_of l.filters) l.doc;
+  shallow : values_depth (filters_of (drop l.filter-index l.filters)) ≤ values_depth (filters_of l.filters);
 }
-
-abbrev pub decreases-each_matches-each : goal.decreases-each_matches-each
-decreases-each_matches-each l = length l.rest
 
 abbrev pub invariant-one_matches-one : goal.invariant-one_matches-one
 invariant-one_matches-one l = record {
-  same : OneMatches (filters_of l.rest) l.doc ↔ OneMatches (filters_of l.filters) l.doc;
-  shallow : values_depth (filters_of l.rest) ≤ values_depth (filters_of l.filters);
+  same : OneMatches (filters_of (drop l.filter-index l.filters)) l.doc ↔ OneMatches (filters_of l.filters) l.doc;
+  shallow : values_depth (filters_of (drop l.filter-index l.filters)) ≤ values_depth (filters_of l.filters);
 }
-
-abbrev pub decreases-one_matches-one : goal.decreases-one_matches-one
-decreases-one_matches-one l = length l.rest
