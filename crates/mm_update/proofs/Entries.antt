@@ -1,9 +1,8 @@
 -- A draft is its first entry, which may be taken out, and the others.
 use Rattle.std.proofs.Common.{◌≡◌, ℕ, Option, Some, None, List, [], ◌∷◌, ◌++◌, max, refl, sym, ap, ◌∙◌, append_assoc, append-nil, arith}
-use Rattle.mm_bson.specs.Tree.{Elements, no_elements, element, depth}
+use Rattle.mm_bson.specs.Tree.{Elements, no_elements, depth}
 use Rattle.mm_bson.specs.Spelling.{type_byte, value_spelling, elements_spelling, AreElements}
 use Rattle.mm_update.specs.declared.draft.Node.{Node}
-use Rattle.mm_update.specs.declared.draft.Entry.{Entry}
 use Rattle.mm_update.specs.Drafted.{node_tree, entry_on, AreNames}
 
 module _ (name : List ℕ) where

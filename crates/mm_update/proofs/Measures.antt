@@ -1,5 +1,6 @@
 -- The length of a document with several edits made, one after the other.
-use Rattle.std.proofs.Common.{◌≡◌, ℕ, ◌<◌, false, List, [], ◌∷◌, ◌++◌, length, Ok, refl, sym, ap, ◌∙◌, arith}
+use Rattle.std.proofs.Common.{◌≡◌, ℕ, ◌+◌, ◌<◌, ◌≤◌, false, List, [], ◌∷◌, ◌++◌, length, get_or, drop, Ok, refl, sym, ap, subst, ◌∙◌, arith}
+use Rattle.std.proofs.lemmas.List.{drop_all}
 use Rattle.std.specs.Prelude.{◌||◌, max}
 use Rattle.mm_bson.specs.Tree.{Elements}
 use Rattle.mm_bson.specs.Path.{names}
@@ -8,7 +9,8 @@ use Rattle.mm_update.specs.Paths.{leads, overlap, overlaps_any}
 use Rattle.mm_update.specs.Edit.{Edit, paths}
 use Rattle.mm_update.specs.Edited.{Outcome, and_then, edited, all_edited, Fails}
 use Rattle.mm_update.specs.Laws.{AreApart}
-use Rattle.mm_update.specs.Meeting.{meet, reach, reached, closer, most_common, doc_len, ArePast, Measured, MeasuredBy}
+use Rattle.mm_update.specs.Meeting.{Meeting, meet, reach, reached, closer, most_common, doc_len, ArePast, Measured, MeasuredBy}
+use Rattle.mm_update.proofs.Listed.{first_edit_is}
 use Rattle.mm_update.proofs.Walk.{paths-append, any_last}
 use Rattle.mm_update.proofs.Whole.{or_left, or_right, or_swap}
 use Rattle.mm_update.proofs.Onward.{Fails-then, Fails-along}
@@ -61,10 +63,6 @@ module _ (done : List Edit) (e : Edit) (others : List Edit) (old : Elements) (wh
     apart = m.apart.1;
   }
 
-pub no_edit_left : (xs : List Edit) → length xs < 1 → xs ≡ []
-no_edit_left [] lt = refl
-no_edit_left (x ∷ xs) lt = absurd (omega arith)
-
 measured_last : (done rest : List Edit) (old : Elements) (whole : Outcome Elements) (len : ℕ) → Measured done rest old whole len → rest ≡ [] → (new : Elements) × (whole ≡ Ok new) × (doc_len new ≡ len)
 measured_last done rest old whole len m none = (m.doc, sym m.told ∙ ap (λ (es : List Edit). all_edited es m.doc) none, m.counted)
 
@@ -74,16 +72,16 @@ pub by_first : (es : List Edit) (old : Elements) (len : ℕ) → AreApart es →
 by_first es old len apart counted = rw (← counted) (record { done = []; measured = measured_first es old apart; made = λ ms. refl; free = λ q none. refl })
 
 module _ (makers : List (List ℕ)) (e : Edit) (others : List Edit) (old : Elements) (whole : Outcome Elements) (len : ℕ) (m : MeasuredBy makers (e ∷ others) old whole len) where
-  pub by_meets : meet (names e.path) m.measured.doc ≡ closer (most_common makers (names e.path)) (meet (names e.path) old)
+  by_meets : meet (names e.path) m.measured.doc ≡ closer (most_common makers (names e.path)) (meet (names e.path) old)
   by_meets = measured_meets m.done e others old whole len m.measured ∙ ap (λ (n : ℕ). closer n (meet (names e.path) old)) (sym (m.made (names e.path)))
 
-  pub by_fails : (f : ChangeFault) → Fails f (edited e m.measured.doc) → Fails f whole
+  by_fails : (f : ChangeFault) → Fails f (edited e m.measured.doc) → Fails f whole
   by_fails f h = measured_fails m.done e others old whole len m.measured f h
 
-  pub by_free : overlaps_any makers e.path ≡ false
+  by_free : overlaps_any makers e.path ≡ false
   by_free = m.free e.path m.measured.past.0
 
-  pub by_on : (new : List (List ℕ)) (next : ℕ) → ((doc : Elements) × (edited e m.measured.doc ≡ Ok doc) × (doc_len doc ≡ next)) → ((ms : List (List ℕ)) → most_common new ms ≡ max (reach e ms) (most_common makers ms))
+  by_on : (new : List (List ℕ)) (next : ℕ) → ((doc : Elements) × (edited e m.measured.doc ≡ Ok doc) × (doc_len doc ≡ next)) → ((ms : List (List ℕ)) → most_common new ms ≡ max (reach e ms) (most_common makers ms))
       → ((q : List ℕ) → overlap e.path q ≡ false → overlaps_any makers q ≡ false → overlaps_any new q ≡ false) → MeasuredBy new others old whole next
   by_on new next g more free = record {
     done = m.done ++ e ∷ [];
@@ -94,5 +92,28 @@ module _ (makers : List (List ℕ)) (e : Edit) (others : List Edit) (old : Eleme
         free q (or_left (overlap e.path q) (overlaps_any (paths m.done) q) both) (m.free q (or_right (overlap e.path q) (overlaps_any (paths m.done) q) both));
   }
 
-pub by_last : (makers : List (List ℕ)) (rest : List Edit) (old : Elements) (whole : Outcome Elements) (len : ℕ) → MeasuredBy makers rest old whole len → rest ≡ [] → (new : Elements) × (whole ≡ Ok new) × (doc_len new ≡ len)
-by_last makers rest old whole len m none = measured_last m.done rest old whole len m.measured none
+-- the same of the edits from a place on, where a meeting that is seen is that of the edit there
+module _ (makers : List (List ℕ)) (es : List Edit) (i : ℕ) (e : Edit) (here : i < length es) (is : e ≡ get_or es i e) (old : Elements) (whole : Outcome Elements) (len : ℕ) (told : MeasuredBy makers (drop i es) old whole len) where
+  abbrev behind : List Edit
+  behind = drop (i + 1) es
+
+  from_here : MeasuredBy makers (e ∷ behind) old whole len
+  from_here = subst (λ (r : List Edit). MeasuredBy makers r old whole len) (first_edit_is e es i here is) told
+
+  pub by_free_at : overlaps_any makers e.path ≡ false
+  by_free_at = by_free makers e behind old whole len from_here
+
+  module _ (seen : Meeting) (met : seen ≡ closer (most_common makers (names e.path)) (meet (names e.path) old)) where
+    meets : meet (names e.path) from_here.measured.doc ≡ seen
+    meets = by_meets makers e behind old whole len from_here ∙ sym met
+
+    pub by_fails_at : (f : ChangeFault) → ((doc : Elements) → meet (names e.path) doc ≡ seen → doc_len doc ≡ len → Fails f (edited e doc)) → Fails f whole
+    by_fails_at f fails = by_fails makers e behind old whole len from_here f (fails from_here.measured.doc meets from_here.measured.counted)
+
+    pub by_on_at : (new : List (List ℕ)) (next : ℕ) → ((doc : Elements) → meet (names e.path) doc ≡ seen → doc_len doc ≡ len → (made : Elements) × (edited e doc ≡ Ok made) × (doc_len made ≡ next))
+        → ((ms : List (List ℕ)) → most_common new ms ≡ max (reach e ms) (most_common makers ms)) → ((q : List ℕ) → overlap e.path q ≡ false → overlaps_any makers q ≡ false → overlaps_any new q ≡ false)
+        → MeasuredBy new (drop (i + 1) es) old whole next
+    by_on_at new next on = by_on makers e behind old whole len from_here new next (on from_here.measured.doc meets from_here.measured.counted)
+
+pub by_last : (makers : List (List ℕ)) (es : List Edit) (i : ℕ) (old : Elements) (whole : Outcome Elements) (len : ℕ) → MeasuredBy makers (drop i es) old whole len → length es ≤ i → (new : Elements) × (whole ≡ Ok new) × (doc_len new ≡ len)
+by_last makers es i old whole len m none = measured_last m.done (drop i es) old whole len m.measured (drop_all i es none)

@@ -43,10 +43,8 @@ fn finish(alloc: Global, draft: &Draft<'_>) -> Result<Doc, ChangeFault>
 fn edit_all<'a>(alloc: Global, draft: &mut Draft<'a>, steps: &'a [Step]) -> Result<(), ChangeFault>
     ensures { Gives (λ _. draft.new) result (all_edited steps.now draft.old) }
 {
-    let mut rest = steps;
-    while let [first, others @ ..] = rest {
-        edit(alloc, draft, first)?;
-        rest = others;
+    for step in steps {
+        edit(alloc, draft, step)?;
     }
     Ok(())
 }
@@ -71,12 +69,10 @@ fn is_id(name: &Text) -> bool
 fn keeps_id(old: Option<&Value>, fields: &[Element]) -> bool
     ensures { result ≡ keeps_id_by (option_map (λ v. tree v.now) old.entry) (elements_of fields.now) }
 {
-    let mut rest = fields;
-    while let [first, others @ ..] = rest {
-        if is_id(&first.name) && !is_old(old, &first.value) {
+    for field in fields {
+        if is_id(&field.name) && !is_old(old, &field.value) {
             return false;
         }
-        rest = others;
     }
     true
 }
@@ -86,12 +82,11 @@ fn add_others<'a>(draft: &mut Draft<'a>, fields: &'a [Element]) -> Result<(), Al
     requires { AreNames (elements_of fields.now) }
     ensures { OnOk result (draft.new ≡ append draft.old (other_fields (elements_of fields.now))) }
 {
-    let mut rest = fields;
-    while let [first, others @ ..] = rest {
-        if !is_id(&first.name) {
-            draft.add(first.name.as_str(), Node::Kept(&first.value))?;
+    for field in fields {
+        if is_id(&field.name) {
+            continue;
         }
-        rest = others;
+        draft.add(field.name.as_str(), Node::Kept(&field.value))?;
     }
     Ok(())
 }

@@ -180,10 +180,9 @@ impl<'a> Draft<'a> {
         ensures { IfOk result (λ d. d ≡ doc.now) }
     {
         let mut draft = Draft::new(alloc);
-        let mut rest = doc.elements();
-        while let [first, others @ ..] = rest {
-            draft.add(first.name.as_str(), Node::Kept(&first.value))?;
-            rest = others;
+        let elements = doc.elements();
+        for element in elements {
+            draft.add(element.name.as_str(), Node::Kept(&element.value))?;
         }
         Ok(draft)
     }

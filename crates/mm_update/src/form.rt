@@ -106,11 +106,9 @@ fn add_edits<'a>(
     ensures ok { OnOk result (steps.new.items ≡ steps.old.items ++ edits_at operator (elements_of fields.now)) }
     ensures form { Passes result (first_wrong (paths steps.old.items) (entries (edits_at operator (elements_of fields.now)))) }
 {
-    let mut rest = fields;
-    while let [first, others @ ..] = rest {
-        check(earlier, operator, first)?;
-        steps.push(step_of(operator, first)?)?;
-        rest = others;
+    for field in fields {
+        check(earlier, operator, field)?;
+        steps.push(step_of(operator, field)?)?;
     }
     Ok(())
 }
@@ -141,10 +139,8 @@ pub(crate) fn edits(alloc: Global, fields: &[Element]) -> Result<Vec<Step>, Chan
 {
     let mut steps = Vec::new(alloc);
     let mut earlier = Apart::new(alloc);
-    let mut rest = fields;
-    while let [first, others @ ..] = rest {
-        add_field(&mut steps, &mut earlier, first)?;
-        rest = others;
+    for field in fields {
+        add_field(&mut steps, &mut earlier, field)?;
     }
     Ok(steps)
 }
@@ -153,12 +149,10 @@ pub(crate) fn edits(alloc: Global, fields: &[Element]) -> Result<Vec<Step>, Chan
 pub(crate) fn check_replacement(fields: &[Element]) -> Result<(), ChangeFault>
     ensures { Passes result (first_operator (elements_of fields.now)) }
 {
-    let mut rest = fields;
-    while let [first, others @ ..] = rest {
-        if has_dollar(first.name.as_bytes()) {
-            return Err(bad_change(&first.name));
+    for field in fields {
+        if has_dollar(field.name.as_bytes()) {
+            return Err(bad_change(&field.name));
         }
-        rest = others;
     }
     Ok(())
 }

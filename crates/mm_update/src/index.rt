@@ -66,13 +66,11 @@ fn place_among(entries: &[Entry<'_>], start: usize, name: &str) -> Option<usize>
     ensures { result ≡ option_map (λ k. start + k) (place_in name.now entries.now) }
 {
     let mut place = start;
-    let mut rest = entries;
-    while let [first, others @ ..] = rest {
-        if is_named(first, name) {
+    for entry in entries {
+        if is_named(entry, name) {
             return Some(place);
         }
         place += 1;
-        rest = others;
     }
     None
 }

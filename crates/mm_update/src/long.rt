@@ -232,15 +232,13 @@ fn len_of_all(alloc: Global, steps: &[Step], doc: &Doc) -> Result<usize, ChangeF
 {
     let mut len = doc.bytes().len();
     let mut makers = Apart::new(alloc);
-    let mut rest = steps;
-    while let [first, others @ ..] = rest {
-        let meeting = meeting_after(&makers, first.path(), doc);
-        match len_after(alloc, first, meeting, len) {
+    for step in steps {
+        let meeting = meeting_after(&makers, step.path(), doc);
+        match len_after(alloc, step, meeting, len) {
             Ok(next) => len = next,
             Err(fault) => return Err(fault),
         }
-        add_maker(&mut makers, first)?;
-        rest = others;
+        add_maker(&mut makers, step)?;
     }
     Ok(len)
 }
@@ -272,12 +270,10 @@ fn is_long(step: &Step) -> bool
 pub(crate) fn has_long(steps: &[Step]) -> bool
     ensures { IsTrue result → HasLong steps.now }
 {
-    let mut rest = steps;
-    while let [first, others @ ..] = rest {
-        if is_long(first) {
+    for step in steps {
+        if is_long(step) {
             return true;
         }
-        rest = others;
     }
     false
 }

@@ -30,15 +30,13 @@ fn array_len(values: &[&Value]) -> Option<usize>
 {
     let mut len = EMPTY_LEN;
     let mut place = 0;
-    let mut rest = values;
-    while let [first, others @ ..] = rest {
-        let value = *first;
+    for next in values {
+        let value = *next;
         len = len
             .checked_add(ELEMENT_LEN)?
             .checked_add(name_len(place))?
             .checked_add(value.spelled_len())?;
         place += 1;
-        rest = others;
     }
     Some(len)
 }
@@ -82,10 +80,9 @@ pub(crate) fn len(draft: &Draft<'_>) -> Option<usize>
     ensures { IfSome result (λ n. n ≡ length (spelling draft.now)) }
 {
     let mut len = EMPTY_LEN;
-    let mut rest = draft.entries();
-    'entries: while let [first, others @ ..] = rest {
-        len = len.checked_add(entry_len(first)?)?;
-        rest = others;
+    let entries = draft.entries();
+    'entries: for entry in entries {
+        len = len.checked_add(entry_len(entry)?)?;
     }
     Some(len)
 }
@@ -94,13 +91,11 @@ fn values_are_shallow(values: &[&Value], limit: usize) -> bool
     requires { 0 < limit }
     ensures { IsTrue result ↔ (values_depth (values_at values.now) < limit) }
 {
-    let mut rest = values;
-    while let [first, others @ ..] = rest {
-        let value = *first;
+    for next in values {
+        let value = *next;
         if value.levels() >= limit {
             return false;
         }
-        rest = others;
     }
     true
 }
@@ -137,12 +132,11 @@ pub(crate) fn is_shallow(draft: &Draft<'_>, limit: usize) -> bool
     requires { 0 < limit }
     ensures { IsTrue result ↔ (depth draft.now < limit) }
 {
-    let mut rest = draft.entries();
-    'entries: while let [first, others @ ..] = rest {
-        if !entry_is_shallow(first, limit) {
+    let entries = draft.entries();
+    'entries: for entry in entries {
+        if !entry_is_shallow(entry, limit) {
             return false;
         }
-        rest = others;
     }
     true
 }

@@ -60,10 +60,9 @@ fn values_in<'a>(alloc: Global, list: &'a ValueList) -> Result<Vec<&'a Value>, A
     ensures { IfOk result (λ vs. values_at vs.items ≡ list.now) }
 {
     let mut found = Vec::new(alloc);
-    let mut rest = list.values();
-    while let [first, others @ ..] = rest {
-        found.push(first)?;
-        rest = others;
+    let values = list.values();
+    for value in values {
+        found.push(value)?;
     }
     Ok(found)
 }

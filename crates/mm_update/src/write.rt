@@ -118,15 +118,13 @@ fn put_items(out: &mut Vec<u8>, values: &[&Value]) -> Result<(), AllocError>
     ensures sound { OnOk result (AreValues (values_at values.now)) }
 {
     let mut place: usize = 0;
-    let mut rest = values;
-    while let [first, others @ ..] = rest {
-        let value = *first;
+    for next in values {
+        let value = *next;
         has_spelling(value);
         let mut digits = Buffer::new();
         put_head(out, type_byte(value), digits.format(place).as_bytes())?;
         value.as_ref().put(out)?;
         place += 1;
-        rest = others;
     }
     Ok(())
 }
@@ -202,10 +200,8 @@ fn put_entries(out: &mut Vec<u8>, entries: &[Entry<'_>]) -> Result<(), AllocErro
     ensures items { OnOk result (out.new.items ≡ out.old.items ++ elements_spelling (drafted entries.now)) }
     ensures sound { OnOk result (AreElements (drafted entries.now)) }
 {
-    let mut rest = entries;
-    'entries: while let [first, others @ ..] = rest {
-        put_entry(out, first)?;
-        rest = others;
+    'entries: for entry in entries {
+        put_entry(out, entry)?;
     }
     Ok(())
 }

@@ -1,4 +1,4 @@
-use Rattle.std.proofs.Common.{◌≡◌, Some, sym, ap, ◌∙◌}
+use Rattle.std.proofs.Common.{sym, ap, ◌∙◌}
 use Rattle.mm_update.specs.Drafted.{place_in, drafted}
 use Rattle.mm_update.proofs.Drafts.{none_named, find-none-without}
 use Rattle.mm_update.proofs.draft.drop_in.Goals as goal

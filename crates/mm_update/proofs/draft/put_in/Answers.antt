@@ -1,6 +1,6 @@
-use Rattle.std.proofs.Common.{◌≡◌, Some, refl, sym, ap, ◌∙◌}
+use Rattle.std.proofs.Common.{Some, refl, sym, ap, ◌∙◌}
 use Rattle.std.proofs.lemmas.Result.{on_ok_weaker}
-use Rattle.mm_update.specs.Drafted.{place_in, node_tree}
+use Rattle.mm_update.specs.Drafted.{place_in}
 use Rattle.mm_update.proofs.Drafts.{none_named, pushed_on}
 use Rattle.mm_update.proofs.draft.put_in.Goals as goal
 

@@ -1,4 +1,4 @@
-use Rattle.std.proofs.Common.{◌≡◌, length, Some, sym, ap, ◌∙◌, arith}
+use Rattle.std.proofs.Common.{arith}
 use Rattle.mm_update.proofs.Drafts.{first_at, changed_at, taken_at}
 use Rattle.mm_update.proofs.Places.{first_named-set}
 use Rattle.mm_update.proofs.draft.set.Goals as goal

@@ -1,4 +1,4 @@
-use Rattle.std.proofs.Common.{◌≡◌, Some, None, sym, ap, ◌∙◌}
+use Rattle.std.proofs.Common.{sym, ◌∙◌}
 use Rattle.mm_update.proofs.Places.{known_some, known_now, none_of}
 use Rattle.mm_update.proofs.index.add_name.Goals as goal
 

@@ -1,60 +1,40 @@
-use Rattle.std.proofs.Common.{◌≡◌, ◌∷◌, length, subst, sym, ap, ◌∙◌, arith}
-use Rattle.mm_bson.specs.Path.{names}
-use Rattle.mm_bson.proofs.Copies.{others}
+use Rattle.std.proofs.Common.{length, ap, sym}
 use Rattle.mm_update.specs.Edited.{all_edited}
-use Rattle.mm_update.specs.Meeting.{meet, MeasuredBy}
 use Rattle.mm_update.specs.Met.{seen}
-use Rattle.mm_update.proofs.Listed.{first_edit_is}
-use Rattle.mm_update.proofs.Measures.{by_first, by_meets, by_fails, by_free, by_on, by_last, no_edit_left}
+use Rattle.mm_update.proofs.Measures.{by_first, by_free_at, by_fails_at, by_on_at, by_last}
 use Rattle.mm_update.proofs.long.len_of_all.Goals as goal
 
-pub loop-rest-init : goal.loop-rest-init
-loop-rest-init c =
-    let steps = c.args.steps.now in
+pub loop-step-init : goal.loop-step-init
+loop-step-init c =
     let old = c.args.doc.now in
-    rw c.new-makers.ensures (by_first steps old (length c.bytes-len.result.now) c.requires (ap length (sym c.bytes-len.ensures.spelled)))
+    rw c.new-makers.ensures (by_first c.args.steps.now old (length c.bytes-len.result.now) c.requires (ap length (sym c.bytes-len.ensures.spelled)))
 
 pub add_maker-requires : goal.add_maker-requires
 add_maker-requires c =
     let steps = c.args.steps.now in
     let old = c.args.doc.now in
-    let first = c.first-item.result in
-    let rest = c.loop-rest.rest.now in
-    let makers = c.loop-rest.makers in
-    let whole = all_edited steps old in
-    let split = first_edit_is first rest (omega arith) c.first-item.is in
-    let m : MeasuredBy makers (first ∷ others rest) old whole c.loop-rest.len = subst (λ r. MeasuredBy makers r old whole c.loop-rest.len) split c.loop-rest.invariant in
-    by_free makers first (others rest) old whole c.loop-rest.len m
+    let l = c.loop-step in
+    by_free_at l.makers steps l.step-index c.step-item.result c.loop-step-test.true c.step-item.is old (all_edited steps old) l.len l.invariant
 
-pub loop-rest-preserved : goal.loop-rest-preserved
-loop-rest-preserved c =
+pub loop-step-preserved : goal.loop-step-preserved
+loop-step-preserved c =
     let steps = c.args.steps.now in
     let old = c.args.doc.now in
-    let first = c.first-item.result in
-    let rest = c.loop-rest.rest.now in
-    let makers = c.loop-rest.makers in
-    let whole = all_edited steps old in
-    let split = first_edit_is first rest (omega arith) c.first-item.is in
-    let m : MeasuredBy makers (first ∷ others rest) old whole c.loop-rest.len = subst (λ r. MeasuredBy makers r old whole c.loop-rest.len) split c.loop-rest.invariant in
-    let met : meet (names first.path) m.measured.doc ≡ seen c.meeting_after-meeting.result = by_meets makers first (others rest) old whole c.loop-rest.len m ∙ sym (rw c.path.ensures.path at c.meeting_after-meeting.ensures) in
-    let after = c.in-Ok.ensures m.measured.doc met m.measured.counted in
-    by_on makers first (others rest) old whole c.loop-rest.len m c.add_maker.new.makers c.in-Ok.next after c.in_ok-add_maker.ensures.reach c.in_ok-add_maker.ensures.free
+    let l = c.loop-step in
+    by_on_at l.makers steps l.step-index c.step-item.result c.loop-step-test.true c.step-item.is old (all_edited steps old) l.len l.invariant
+    (seen c.meeting_after-meeting.result) (rw c.path.ensures.path at c.meeting_after-meeting.ensures) c.add_maker.new.makers c.in-Ok.next c.in-Ok.ensures c.in_ok-add_maker.ensures.reach c.in_ok-add_maker.ensures.free
 
 pub returns-in-Err : goal.returns-in-Err
 returns-in-Err c =
     let steps = c.args.steps.now in
     let old = c.args.doc.now in
-    let first = c.first-item.result in
-    let rest = c.loop-rest.rest.now in
-    let makers = c.loop-rest.makers in
-    let whole = all_edited steps old in
-    let split = first_edit_is first rest (omega arith) c.first-item.is in
-    let m : MeasuredBy makers (first ∷ others rest) old whole c.loop-rest.len = subst (λ r. MeasuredBy makers r old whole c.loop-rest.len) split c.loop-rest.invariant in
-    let met : meet (names first.path) m.measured.doc ≡ seen c.meeting_after-meeting.result = by_meets makers first (others rest) old whole c.loop-rest.len m ∙ sym (rw c.path.ensures.path at c.meeting_after-meeting.ensures) in
-    by_fails makers first (others rest) old whole c.loop-rest.len m c.in-Err.fault (c.in-Err.ensures m.measured.doc met m.measured.counted)
+    let l = c.loop-step in
+    by_fails_at l.makers steps l.step-index c.step-item.result c.loop-step-test.true c.step-item.is old (all_edited steps old) l.len l.invariant
+    (seen c.meeting_after-meeting.result) (rw c.path.ensures.path at c.meeting_after-meeting.ensures) c.in-Err.fault c.in-Err.ensures
 
 pub returns : goal.returns
 returns c =
     let steps = c.args.steps.now in
     let old = c.args.doc.now in
-    by_last c.loop-rest.makers c.loop-rest.rest.now old (all_edited steps old) c.loop-rest.len c.loop-rest.invariant (no_edit_left c.loop-rest.rest.now (omega arith))
+    let l = c.loop-step in
+    by_last l.makers steps l.step-index old (all_edited steps old) l.len l.invariant c.loop-step-test.false

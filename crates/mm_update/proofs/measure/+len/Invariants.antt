@@ -1,4 +1,4 @@
-use Rattle.std.proofs.Common.{◌≡◌, ◌+◌, ◌*◌, ◌≤◌, length}
+use Rattle.std.proofs.Common.{◌≡◌, ◌+◌, ◌*◌, ◌≤◌, length, drop}
 use Rattle.mm_bson.specs.Tree.{depth, tree_depth}
 use Rattle.mm_bson.specs.Spelling.{elements_spelling}
 use Rattle.mm_update.specs.Drafted.{drafted, one_entry, node_tree}
@@ -18,9 +18,6 @@ decreases-node_len l = 4 * tree_depth (node_tree l.node.now)
 
 abbrev pub invariant-len-entries : goal.invariant-len-entries
 invariant-len-entries l = record {
-  counted : l.len + length (elements_spelling (drafted l.rest)) ≡ 5 + length (elements_spelling l.draft);
-  shallow : depth (drafted l.rest) ≤ depth l.draft;
+  counted : l.len + length (elements_spelling (drafted (drop l.entry-index l.entries))) ≡ 5 + length (elements_spelling l.draft);
+  shallow : depth (drafted (drop l.entry-index l.entries)) ≤ depth l.draft;
 }
-
-abbrev pub decreases-len-entries : goal.decreases-len-entries
-decreases-len-entries l = length l.rest

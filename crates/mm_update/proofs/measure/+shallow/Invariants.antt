@@ -1,4 +1,4 @@
-use Rattle.std.proofs.Common.{◌+◌, ◌*◌, ◌≤◌, ◌<◌, length}
+use Rattle.std.proofs.Common.{◌+◌, ◌*◌, ◌≤◌, ◌<◌, drop}
 use Rattle.std.specs.Prelude.{◌↔◌}
 use Rattle.mm_bson.specs.Tree.{depth, tree_depth}
 use Rattle.mm_update.specs.Drafted.{drafted, one_entry, node_tree}
@@ -15,9 +15,6 @@ decreases-entry_is_shallow l = 3 * depth (one_entry l.entry.now) + 1
 
 abbrev pub invariant-is_shallow-entries : goal.invariant-is_shallow-entries
 invariant-is_shallow-entries l = record {
-  same : (depth (drafted l.rest) < l.limit) ↔ (depth l.draft < l.limit);
-  shallow : depth (drafted l.rest) ≤ depth l.draft;
+  same : (depth (drafted (drop l.entry-index l.entries)) < l.limit) ↔ (depth l.draft < l.limit);
+  shallow : depth (drafted (drop l.entry-index l.entries)) ≤ depth l.draft;
 }
-
-abbrev pub decreases-is_shallow-entries : goal.decreases-is_shallow-entries
-decreases-is_shallow-entries l = length l.rest

@@ -7,5 +7,5 @@ use Rattle.mm_update.proofs.measure.array_len.Goals as goal
 
 pub returns : goal.returns
 returns c =
-    let none = ap (λ vs. length (values_spelling c.loop-rest.place vs)) (no_value_at c.loop-rest.rest.now (omega arith)) in
-    omega (arith, c.loop-rest.invariant.counted, none, array_spelling_len (values_at c.args.values.now))
+    let none = ap (λ vs. length (values_spelling c.loop-next.place vs)) (no_value_at c.args.values.now c.loop-next.next-index c.loop-next-test.false) in
+    omega (arith, c.loop-next.invariant.counted, none, array_spelling_len (values_at c.args.values.now))

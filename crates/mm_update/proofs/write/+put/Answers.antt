@@ -1,4 +1,4 @@
-use Rattle.std.proofs.Common.{◌≡◌, ◌++◌, ◌∷◌, [], ◌^◌, suc, length, refl, sym, ap, subst, ◌∙◌, append_assoc, length-append, arith}
+use Rattle.std.proofs.Common.{◌≡◌, ◌++◌, ◌∷◌, [], ◌^◌, suc, length, refl, sym, ap, subst, ◌∙◌, append_assoc, length-append, drop, ◌+◌, arith}
 use Rattle.std.specs.Prelude.{OnOk}
 use Rattle.std.specs.Str.{is_utf8}
 use Rattle.std.proofs.lemmas.Str.{is_utf8-from_IsUtf8}
@@ -7,7 +7,6 @@ use Rattle.mm_bson.specs.Tree.{no_elements, depth, tree_depth}
 use Rattle.mm_bson.specs.Spelling.{spelling, array_spelling, value_spelling, elements_spelling, AreElements}
 use Rattle.mm_bson.proofs.Building.{spelling_len}
 use Rattle.mm_update.specs.Drafted.{values_at, node_tree, drafted, entry_on, one_entry, AreNames}
-use Rattle.mm_bson.proofs.Copies.{others}
 use Rattle.mm_update.proofs.Listed.{first_entry_is}
 use Rattle.mm_update.proofs.Entries.{spelling_first, depth_first, names_first, sound_first}
 use Rattle.mm_update.proofs.Frames.{ended, ended_room, ended_short, framed_put}
@@ -67,9 +66,9 @@ put_node-returns-in-Array-clause-items t c =
 
 pub put_entries-put_entry-requires : goal.put_entries-put_entry-requires
 put_entries-put_entry-requires t c =
-    let first = c.first-item.result in
-    let es = drafted (others c.entries.rest.now) in
-    let split = first_entry_is first c.entries.rest.now (omega arith) c.first-item.is in
+    let first = c.entry-item.result in
+    let es = drafted (drop (c.entries.entry-index + 1) c.args.entries.now) in
+    let split = first_entry_is first c.args.entries.now c.entries.entry-index c.entries-test.true c.entry-item.is in
     let one = elements_spelling (one_entry first) in
     let spelled = ap (λ ds. length (elements_spelling ds)) split ∙ ap length (spelling_first first.name.now first.node es) ∙ length-append one (elements_spelling es) in
     let deep = ap depth split ∙ depth_first first.name.now first.node es in
@@ -77,9 +76,9 @@ put_entries-put_entry-requires t c =
 
 pub put_entries-entries-preserved : goal.put_entries-entries-preserved
 put_entries-entries-preserved t c =
-    let first = c.first-item.result in
-    let es = drafted (others c.entries.rest.now) in
-    let split = first_entry_is first c.entries.rest.now (omega arith) c.first-item.is in
+    let first = c.entry-item.result in
+    let es = drafted (drop (c.entries.entry-index + 1) c.args.entries.now) in
+    let split = first_entry_is first c.args.entries.now c.entries.entry-index c.entries-test.true c.entry-item.is in
     let one = elements_spelling (one_entry first) in
     let spell = ap elements_spelling split ∙ spelling_first first.name.now first.node es in
     let spelled = ap length spell ∙ length-append one (elements_spelling es) in

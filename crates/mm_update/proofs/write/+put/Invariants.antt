@@ -1,4 +1,4 @@
-use Rattle.std.proofs.Common.{◌≡◌, ◌++◌, ◌+◌, ◌*◌, ◌≤◌, ◌<◌, ◌^◌, length}
+use Rattle.std.proofs.Common.{◌≡◌, ◌++◌, ◌+◌, ◌*◌, ◌≤◌, ◌<◌, ◌^◌, length, drop}
 use Rattle.mm_bson.specs.Tree.{depth, tree_depth}
 use Rattle.mm_bson.specs.Spelling.{elements_spelling, AreElements}
 use Rattle.mm_update.specs.Drafted.{drafted, one_entry, node_tree, AreNames}
@@ -18,12 +18,9 @@ decreases-put_node l = 4 * tree_depth (node_tree l.node.now)
 
 abbrev pub invariant-put_entries-entries : goal.invariant-put_entries-entries
 invariant-put_entries-entries l = record {
-  items : l.out.items ++ elements_spelling (drafted l.rest) ≡ l.fn.out.items ++ elements_spelling (drafted l.entries);
-  sound : AreElements (drafted l.rest) → AreElements (drafted l.entries);
-  names : AreNames (drafted l.rest);
-  short : length (elements_spelling (drafted l.rest)) < 2 ^ 31;
-  shallow : depth (drafted l.rest) ≤ depth (drafted l.entries);
+  items : l.out.items ++ elements_spelling (drafted (drop l.entry-index l.entries)) ≡ l.fn.out.items ++ elements_spelling (drafted l.entries);
+  sound : AreElements (drafted (drop l.entry-index l.entries)) → AreElements (drafted l.entries);
+  names : AreNames (drafted (drop l.entry-index l.entries));
+  short : length (elements_spelling (drafted (drop l.entry-index l.entries))) < 2 ^ 31;
+  shallow : depth (drafted (drop l.entry-index l.entries)) ≤ depth (drafted l.entries);
 }
-
-abbrev pub decreases-put_entries-entries : goal.decreases-put_entries-entries
-decreases-put_entries-entries l = length l.rest

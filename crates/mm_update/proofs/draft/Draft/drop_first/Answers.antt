@@ -1,4 +1,3 @@
-use Rattle.std.proofs.Common.{sym}
 use Rattle.mm_update.specs.Drafted.{drafted}
 use Rattle.mm_update.proofs.Fields.{AreNames-without}
 use Rattle.mm_update.proofs.Places.{index_kept}
