@@ -1,23 +1,10 @@
 //! A system that writes down what it is asked, and takes and gives a limited number of bytes at a time.
 
-use mm_host::FolderDisk;
 use std::alloc::{AllocError, Allocator, Global};
 use std::cell::RefCell;
-use std::fs::{self, File, Metadata, OpenFile, OpenOptions};
+use std::fs::{File, Metadata, OpenFile, OpenOptions};
 use std::io::{self, ErrorKind, Read, Seek, SeekFrom, Write};
-use std::process;
 use std::rt::Files;
-use std::test::Fail;
-
-/// The path of a folder that isn't there.
-pub fn fresh_folder(rt: HostRuntime, name: &str) -> Result<String, Fail> {
-    let id = process::id(rt.process());
-    let folder = format!(in rt.alloc(); "mm_rows_host-{name}-{id}")?;
-    if fs::exists(&rt, folder.as_str())? {
-        fs::remove_dir_all(&rt, folder.as_str())?;
-    }
-    Ok(folder)
-}
 
 /// The real files, with at most so many bytes at each read and write, and all that they were asked to make, write, cut,
 /// take and sync. F stands for the disk's folder.
@@ -49,12 +36,6 @@ impl Watched<'_> {
         let name = path.strip_prefix(self.folder).unwrap_or(path);
         append(self.asked, &[what, " F", name, "; "])
     }
-}
-
-/// The real folder over such a system.
-pub fn disk_over(system: Watched<'_>) -> Result<FolderDisk<Watched<'_>>, AllocError> {
-    let folder = String::from_str(system.rt.alloc(), system.folder)?;
-    Ok(FolderDisk::new(system, folder))
 }
 
 #[derive(Drop)]

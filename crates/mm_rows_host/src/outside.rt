@@ -33,55 +33,57 @@ fn changed<D: Disk>(disk: &mut D, ask: Ask) -> Option<Result<(), Device>> {
     }
 }
 
-fn names_of<D: Disk>(alloc: Global, disk: &mut D) -> Result<String, Device> {
-    let mut names = Vec::new(alloc);
+/// Appends the names, each with a blank behind it.
+fn names_of<D: Disk>(out: &mut String, disk: &mut D) -> Result<(), Device> {
+    let mut names = Vec::new(*out.allocator());
     disk.names(&mut names)?;
-    let mut joined = String::new(alloc);
     for name in &names {
-        joined.push_str(name.as_str())?;
-        joined.push(' ')?;
+        write!(out, "{name} ")?;
     }
-    Ok(joined)
+    Ok(())
 }
 
-/// How many bytes are read, and the buffer of six sevens behind it.
-fn bytes_of<D: Disk>(alloc: Global, disk: &mut D, name: &str, at: u64) -> Result<String, Device> {
+fn len_of<D: Disk>(out: &mut String, disk: &mut D, name: &str) -> Result<(), Device> {
+    let len = disk.len(name)?;
+    write!(out, "{len:?}")?;
+    Ok(())
+}
+
+/// Appends how many bytes are read, and the buffer of six sevens behind it.
+fn bytes_of<D: Disk>(out: &mut String, disk: &mut D, name: &str, at: u64) -> Result<(), Device> {
     let mut buf = [7u8; 6];
     let count = disk.read_at(name, at, &mut buf)?;
-    Ok(format!(in alloc; "{count} {buf:?}")?)
+    write!(out, "{count} {buf:?}")?;
+    Ok(())
 }
 
-fn seen<D: Disk>(alloc: Global, disk: &mut D, ask: Ask) -> Result<String, Device> {
+/// Appends what is seen, if nothing fails.
+fn seen<D: Disk>(out: &mut String, disk: &mut D, ask: Ask) -> Result<(), Device> {
     match ask {
-        Ask::Names => names_of(alloc, disk),
-        Ask::Read(name, at) => bytes_of(alloc, disk, name, at),
-        Ask::Len(name) => {
-            let len = disk.len(name)?;
-            Ok(format!(in alloc; "{len:?}")?)
-        }
-        _ => {
-            let moment = disk.moment();
-            Ok(format!(in alloc; "{moment}")?)
-        }
+        Ask::Names => names_of(out, disk),
+        Ask::Read(name, at) => bytes_of(out, disk, name, at),
+        Ask::Len(name) => len_of(out, disk, name),
+        _ => Ok(write!(out, "{}", disk.moment())?),
     }
 }
 
-fn word(outcome: Result<(), Device>) -> &'static str {
+pub fn word(fault: Device) -> &'static str {
+    match fault {
+        Device::Fault => "fault",
+        Device::NoMemory => "no memory",
+    }
+}
+
+/// Appends the answer to one of the asks.
+fn answer<D: Disk>(out: &mut String, disk: &mut D, ask: Ask) -> Result<(), AllocError> {
+    let outcome = match changed(disk, ask) {
+        Some(Ok(())) => return out.push_str("ok"),
+        Some(outcome) => outcome,
+        None => seen(out, disk, ask),
+    };
     match outcome {
-        Ok(()) => "ok",
-        Err(Device::Fault) => "fault",
-        Err(Device::NoMemory) => "no memory",
-    }
-}
-
-/// The answer to one of the asks.
-fn answer<D: Disk>(alloc: Global, disk: &mut D, ask: Ask) -> Result<String, AllocError> {
-    if let Some(outcome) = changed(disk, ask) {
-        return String::from_str(alloc, word(outcome));
-    }
-    match seen(alloc, disk, ask) {
-        Ok(text) => Ok(text),
-        Err(fault) => String::from_str(alloc, word(Err(fault))),
+        Ok(()) => Ok(()),
+        Err(fault) => out.push_str(word(fault)),
     }
 }
 
@@ -89,8 +91,7 @@ fn answer<D: Disk>(alloc: Global, disk: &mut D, ask: Ask) -> Result<String, Allo
 pub fn told<D: Disk>(alloc: Global, disk: &mut D, asks: &[Ask]) -> Result<String, AllocError> {
     let mut out = String::new(alloc);
     for ask in asks {
-        let text = answer(alloc, disk, *ask)?;
-        out.push_str(text.as_str())?;
+        answer(&mut out, disk, *ask)?;
         out.push_str("; ")?;
     }
     Ok(out)
