@@ -1,7 +1,7 @@
 //! Numbers, places and names in bytes.
 
+use crate::judging::{same, same_bytes};
 use mm_base::*;
-use std::test::Fail;
 
 /// One number of each width, one behind the other, from byte 1 on.
 const NUMBERS: [u8; 28] = [
@@ -11,17 +11,14 @@ const NUMBERS: [u8; 28] = [
 
 #[test]
 fn reads_numbers(rt: HostRuntime) {
-    let numbers = (
-        read_u16(&NUMBERS, 1),
-        read_u32(&NUMBERS, 3),
+    let numbers = [
+        u64::from(read_u16(&NUMBERS, 1)),
+        u64::from(read_u32(&NUMBERS, 3)),
         read_u64(&NUMBERS, 7),
-        read_i32(&NUMBERS, 15),
-        read_i64(&NUMBERS, 19),
-    );
-    assert_eq!(rt;
-        numbers,
-        (0x1234, 0x12345678, 0x0123456789abcdef, -2, i64::MIN)
-    );
+    ];
+    same(&rt, &numbers, &[0x1234, 0x12345678, 0x0123456789abcdef]);
+    let signed = [i64::from(read_i32(&NUMBERS, 15)), read_i64(&NUMBERS, 19)];
+    same(&rt, &signed, &[-2, i64::MIN]);
 }
 
 #[test]
@@ -32,7 +29,7 @@ fn writes_numbers(rt: HostRuntime) {
     put_u64(&mut bytes, 7, 0x0123456789abcdef);
     put_i32(&mut bytes, 15, -2);
     put_i64(&mut bytes, 19, i64::MIN);
-    assert_eq!(rt; bytes, NUMBERS);
+    same_bytes(&rt, &bytes, &NUMBERS);
 }
 
 #[test]
@@ -40,13 +37,10 @@ fn reads_and_writes_bytes(rt: HostRuntime) {
     let mut bytes = [0xaa; 28];
     put_zeros(&mut bytes, 1, 26);
     put_bytes(&mut bytes, 26, &[7, 8]);
-    let seen = (
-        read_array::<2>(&NUMBERS, 2),
-        is_zero(&bytes, 1, 25),
-        is_zero(&bytes, 1, 26),
-        frame(&bytes, 25, 3),
-    );
-    assert_eq!(rt; seen, ([0x12, 0x78], true, false, [0, 7, 8].as_slice()));
+    let are_zero = [is_zero(&bytes, 1, 25), is_zero(&bytes, 1, 26)];
+    same(&rt, &are_zero, &[true, false]);
+    same_bytes(&rt, frame(&bytes, 25, 3), &[0, 7, 8]);
+    same(&rt, &read_array::<2>(&NUMBERS, 2), &[0x12, 0x78]);
 }
 
 /// The place (1, 256), and null with the offset 7.
@@ -58,7 +52,11 @@ const PLACES: [u8; 16] = [
 fn reads_places(rt: HostRuntime) {
     let places: [DiskLoc; 2] = read_places(&PLACES, 0);
     let [first, second] = places;
-    assert_eq!(rt; places, [DiskLoc { file: 1, ofs: 256 }, DiskLoc::NULL]);
+    same(
+        &rt,
+        &places,
+        &[DiskLoc { file: 1, ofs: 256 }, DiskLoc::NULL],
+    );
     let is = [
         first.is_null(),
         second.is_null(),
@@ -66,7 +64,7 @@ fn reads_places(rt: HostRuntime) {
         spells_place(&PLACES, 8),
         second < first,
     ];
-    assert_eq!(rt; is, [false, true, true, false, true]);
+    same(&rt, &is, &[false, true, true, false, true]);
 }
 
 #[test]
@@ -74,53 +72,45 @@ fn writes_places(rt: HostRuntime) {
     let places = [DiskLoc { file: 1, ofs: 256 }, DiskLoc::NULL];
     let mut bytes = [0xaa; 16];
     put_places(&mut bytes, 0, &places);
-    let mut spelled = PLACES;
-    put_zeros(&mut spelled, 12, 4);
-    assert_eq!(rt; bytes, spelled);
+    same_bytes(&rt, &bytes[..12], &PLACES[..12]);
+    same_bytes(&rt, &bytes[12..], &[0; 4]);
 }
 
-#[test]
-fn makes_names(rt: HostRuntime) {
-    let long = [b'x'; 121];
-    for (bytes, is_name) in [
-        (&long[..MAX_NAME_LEN], true),
-        (&long, false),
-        (b"", false),
-        (b"a\0b", false),
-    ] {
-        assert_eq!(rt; Name::new(bytes).is_some(), is_name, "at {bytes:?}");
-    }
-}
-
-#[test]
-fn orders_names(rt: HostRuntime) -> Result<(), Fail> {
-    let first = Name::new(b"a").ok_or("no name")?;
-    let name = Name::new(b"a.b").ok_or("no name")?;
-    assert_eq!(rt; (name.bytes(), first < name), (b"a.b".as_slice(), true));
-    Ok(())
-}
-
-#[test]
-fn pads_names(rt: HostRuntime) -> Result<(), Fail> {
-    let name = Name::new(b"a.b").ok_or("no name")?;
+/// The front of a name's field, from which the name is read again.
+fn front_of(bytes: &[u8]) -> Option<[u8; 5]> {
+    let name = Name::new(bytes)?;
     let field = name.padded();
-    assert_eq!(rt;
-        (&field[..5], Name::from_padded(&field)),
-        (b"a.b\0\0".as_slice(), Some(name))
-    );
-    Ok(())
+    let again = Name::from_padded(&field)?;
+    (again == name && name.bytes() == bytes).then_some(read_array(&field, 0))
+}
+
+/// A byte more than a name has at most.
+const LONG: [u8; 121] = [b'x'; 121];
+
+/// A name has 1 to 120 bytes, none of which is 00, and zeros behind it in its field.
+#[test]
+fn makes_and_pads_names(rt: HostRuntime) {
+    for (bytes, front) in [
+        (b"a.b".as_slice(), Some(*b"a.b\0\0")),
+        (&LONG[..MAX_NAME_LEN], Some(*b"xxxxx")),
+        (&LONG, None),
+        (b"", None),
+        (b"a\0b", None),
+    ] {
+        same(&rt, &front_of(bytes), &front);
+    }
 }
 
 #[test]
 fn takes_padded_names(rt: HostRuntime) {
-    for (field, is_name) in [
-        (b"ab".as_slice(), true),
-        (b"a\0b", false),
-        (b"\0\0", false),
-        (b"", false),
-    ] {
-        assert_eq!(rt; Name::from_padded(field).is_some(), is_name, "at {field:?}");
-    }
+    let are = [
+        Name::from_padded(b"ab").is_some(),
+        Name::from_padded(b"a\0b").is_some(),
+        Name::from_padded(b"\0\0").is_some(),
+        Name::from_padded(b"").is_some(),
+        Name::new(b"a") < Name::new(b"a.b"),
+    ];
+    same(&rt, &are, &[true, false, false, false, true]);
 }
 
 #[test]
@@ -130,5 +120,5 @@ fn tells_values_apart(rt: HostRuntime) {
         DbNo(1) < DbNo(2),
         SessionNo(3) == SessionNo(3),
     ];
-    assert_eq!(rt; is, [true; 3]);
+    same(&rt, &is, &[true; 3]);
 }

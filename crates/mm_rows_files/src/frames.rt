@@ -1,5 +1,6 @@
 //! Frames in bytes.
 
+use crate::judging::{same, same_bytes};
 use mm_base::{DiskLoc, frame, is_zero};
 use mm_frames::*;
 
@@ -24,10 +25,12 @@ fn spells_blocks(rt: HostRuntime) {
         prev_ofs: CHAIN_END,
     };
     put_rec_header(&mut bytes, 1, &header);
-    assert_eq!(rt; (bytes, read_rec_header(&RECORD, 1)), (RECORD, header));
+    same_bytes(&rt, &bytes, &RECORD);
+    same_bytes(&rt, &rec_header_frame(&header), &RECORD[1..17]);
+    same(&rt, &read_rec_header(&RECORD, 1), &header);
     put_next_ofs(&mut bytes, 1, 8400);
     put_prev_ofs(&mut bytes, 1, 8368);
-    assert_eq!(rt; &bytes[9..], b"\xd0\x20\0\0\xb0\x20\0\0\xaa".as_slice());
+    same_bytes(&rt, &bytes[9..], b"\xd0\x20\0\0\xb0\x20\0\0\xaa");
 }
 
 /// The deleted block behind two other bytes; the offset of its null link is 0.
@@ -46,9 +49,11 @@ fn spells_deleted_blocks(rt: HostRuntime) {
         next_deleted: DiskLoc::NULL,
     };
     put_deleted_header(&mut bytes, 2, &deleted);
-    assert_eq!(rt; (deleted, bytes), (expected, DELETED_BEHIND));
+    same(&rt, &deleted, &expected);
+    same_bytes(&rt, &bytes, &DELETED_BEHIND);
+    same_bytes(&rt, &deleted_header_frame(&deleted), &DELETED_BEHIND[2..]);
     put_next_deleted(&mut bytes, 2, DiskLoc { file: 1, ofs: 256 });
-    assert_eq!(rt; &bytes[10..], b"\x01\0\0\0\0\x01\0\0".as_slice());
+    same_bytes(&rt, &bytes[10..], b"\x01\0\0\0\0\x01\0\0");
 }
 
 #[test]
@@ -63,17 +68,16 @@ fn spells_file_headers(rt: HostRuntime) {
     };
     let before = is_file_header(&bytes, 0);
     put_file_header(&mut bytes, 0, &header);
-    assert_eq!(rt;
+    same_bytes(
+        &rt,
         &bytes[..24],
-        b"\x04\0\0\0\x05\0\0\0\0\0\x10\0\0\0\0\0\0\x20\0\0\0\xe0\x0f\0".as_slice()
+        b"\x04\0\0\0\x05\0\0\0\0\0\x10\0\0\0\0\0\0\x20\0\0\0\xe0\x0f\0",
     );
-    let put = is_file_header(&bytes, 0) && is_zero(&bytes, 24, 8168);
+    same(&rt, &read_file_header(&bytes, 0), &header);
+    let is_put = is_file_header(&bytes, 0) && is_zero(&bytes, 24, 8168);
     bytes[8191] = 1;
     let changed = is_file_header(&bytes, 0);
-    assert_eq!(rt;
-        (read_file_header(&bytes, 0), [before, put, changed]),
-        (header, [false, true, false])
-    );
+    same(&rt, &[before, is_put, changed], &[false, true, false]);
 }
 
 /// The extent of `test.c` in a new file, with two records.
@@ -101,29 +105,28 @@ fn extent_header() -> ExtentHeader {
     }
 }
 
+/// What stands before the name's zeros, and behind them.
+const EXTENT_FRONT: &[u8] =
+    b"DCBA\0\0\0\0\0\xa0\0\0\xff\xff\xff\xff\0\0\0\0\xff\xff\xff\xff\0\0\0\0test.c";
+
+const EXTENT_END: &[u8] = b"\0\x40\0\0\0\0\0\0\xb0\xa0\0\0\0\0\0\0\xd0\xa0\0\0";
+
 #[test]
 fn spells_extents(rt: HostRuntime) {
     let header = extent_header();
     let mut bytes = [0xaa; EXTENT_HEADER_LEN];
     put_extent_header(&mut bytes, 0, &header);
-    assert_eq!(rt;
-        (frame(&bytes, 0, 34), frame(&bytes, 156, 20)),
-        (
-            b"DCBA\0\0\0\0\0\xa0\0\0\xff\xff\xff\xff\0\0\0\0\xff\xff\xff\xff\0\0\0\0test.c".as_slice(),
-            b"\0\x40\0\0\0\0\0\0\xb0\xa0\0\0\0\0\0\0\xd0\xa0\0\0".as_slice()
-        )
-    );
-    assert_eq!(rt;
-        (is_zero(&bytes, 34, 122), read_extent_header(&bytes, 0)),
-        (true, header)
-    );
+    same_bytes(&rt, frame(&bytes, 0, 34), EXTENT_FRONT);
+    same_bytes(&rt, frame(&bytes, 34, 122), &[0; 122]);
+    same_bytes(&rt, frame(&bytes, 156, 20), EXTENT_END);
+    same(&rt, &read_extent_header(&bytes, 0), &header);
+    same_bytes(&rt, &extent_header_frame(&header), &bytes);
 }
 
 #[test]
 fn links_extents(rt: HostRuntime) {
     let header = extent_header();
-    let mut bytes = [0; EXTENT_HEADER_LEN];
-    put_extent_header(&mut bytes, 0, &header);
+    let mut bytes = extent_header_frame(&header);
     put_xnext(&mut bytes, 0, header.my_loc);
     put_xprev(&mut bytes, 0, header.last_record);
     put_first_record(&mut bytes, 0, DiskLoc::NULL);
@@ -135,7 +138,7 @@ fn links_extents(rt: HostRuntime) {
         last_record: DiskLoc::NULL,
         ..header
     };
-    assert_eq!(rt; read_extent_header(&bytes, 0), changed);
+    same(&rt, &read_extent_header(&bytes, 0), &changed);
 }
 
 /// The first of the places at which the bytes don't go on with their part.
@@ -219,12 +222,11 @@ fn spells_nodes(rt: HostRuntime) {
         name,
     };
     let bytes = node_bytes(&head);
-    assert_eq!(rt; missing(&bytes, &NODE_PARTS), None);
-    let are_zero = is_zero(&bytes, 520, 32) && is_zero(&bytes, 556, 72);
-    assert_eq!(rt;
-        (read_node_head(&bytes, 0), &bytes[552..556], are_zero),
-        (head, [1, 0, 0, 0].as_slice(), true)
-    );
+    same(&rt, &missing(&bytes, &NODE_PARTS), &None);
+    same_bytes(&rt, &bytes[520..552], &[0; 32]);
+    same_bytes(&rt, &bytes[552..556], &[1, 0, 0, 0]);
+    same_bytes(&rt, &bytes[556..], &[0; 72]);
+    same(&rt, &read_node_head(&bytes, 0), &head);
 }
 
 #[test]
@@ -238,25 +240,7 @@ fn reads_nodes(rt: HostRuntime) {
     details.datasize = 32;
     details.nrecords = 2;
     details.deleted[18] = place(41168);
-    assert_eq!(rt; read_details(&bytes, NODE_HEAD_LEN), details);
+    same(&rt, &read_details(&bytes, NODE_HEAD_LEN), &details);
     put_index_pair(&mut bytes, 324, &IndexPair::NULL);
-    assert_eq!(rt; read_index_pair(&bytes, 324), IndexPair::NULL);
-}
-
-/// The frames that calls give whole are those that they put.
-#[test]
-fn gives_frames(rt: HostRuntime) {
-    let header = extent_header();
-    let mut bytes = [0; EXTENT_HEADER_LEN];
-    put_extent_header(&mut bytes, 0, &header);
-    let record = rec_header_frame(&read_rec_header(&RECORD, 1));
-    let deleted = deleted_header_frame(&read_deleted_header(&DELETED, 0));
-    assert_eq!(rt;
-        (
-            extent_header_frame(&header),
-            record.as_slice(),
-            &deleted[..12]
-        ),
-        (bytes, &RECORD[1..17], &DELETED[..12])
-    );
+    same(&rt, &read_index_pair(&bytes, 324), &IndexPair::NULL);
 }

@@ -1,6 +1,7 @@
 //! The frames of the journal in bytes.
 
 use crate::frames::missing;
+use crate::judging::{same, same_bytes};
 use mm_base::{is_zero, put_u16};
 use mm_frames::*;
 
@@ -23,32 +24,28 @@ const FOOTER: [u8; 32] = [
 
 #[test]
 fn spells_sections(rt: HostRuntime) {
-    let header = read_section_header(&SECTION, 0);
     let expected = SectionHeader {
         len: 52,
         number: 1,
         file_id: 1,
     };
-    assert_eq!(rt;
-        (header, section_header_frame(&expected)),
-        (expected, SECTION)
-    );
+    same(&rt, &read_section_header(&SECTION, 0), &expected);
+    same_bytes(&rt, &section_header_frame(&expected), &SECTION);
+}
 
+#[test]
+fn spells_entries(rt: HostRuntime) {
     let range = EntryHead {
         len: 8,
         ofs: 100,
         file: 0x7fff_ffff,
     };
+    same(&rt, &read_entry_head(&RANGE, 0), &range);
+    same_bytes(&rt, &entry_head_frame(&range), &RANGE);
     let made = MadeEntry { file: 1, len: 4096 };
-    assert_eq!(rt;
-        (read_entry_head(&RANGE, 0), read_made_entry(&MADE, 0)),
-        (range, made)
-    );
-    assert_eq!(rt;
-        (entry_head_frame(&range), made_entry_frame(&made)),
-        (RANGE, MADE)
-    );
-    assert_eq!(rt; (NAME_WORD, FOOTER_WORD), (0xffff_fffe, 0xffff_ffff));
+    same(&rt, &read_made_entry(&MADE, 0), &made);
+    same_bytes(&rt, &made_entry_frame(&made), &MADE);
+    same(&rt, &[NAME_WORD, FOOTER_WORD], &[0xffff_fffe, 0xffff_ffff]);
 }
 
 #[test]
@@ -56,17 +53,15 @@ fn spells_footers(rt: HostRuntime) {
     let footer = Footer {
         hash: [1, 2, 3, 4, 5, 6, 7, 8, 9, 10, 11, 12, 13, 14, 15, 16],
     };
-    assert_eq!(rt;
-        (read_footer(&FOOTER, 0), footer_frame(&footer)),
-        (footer, FOOTER)
-    );
+    same(&rt, &read_footer(&FOOTER, 0), &footer);
+    same_bytes(&rt, &footer_frame(&footer), &FOOTER);
     let mut bytes = FOOTER;
     bytes[31] = 0;
     let are = [
         is_footer(&FOOTER, 0, &footer),
         is_footer(&bytes, 0, &footer),
     ];
-    assert_eq!(rt; are, [true, false]);
+    same(&rt, &are, &[true, false]);
 }
 
 /// The front of the lsn file of section 3; 64 zeros follow.
@@ -78,16 +73,14 @@ const LSN: [u8; 24] = [
 fn spells_lsn(rt: HostRuntime) {
     let mut bytes = [0xaa; LSN_LEN];
     put_lsn(&mut bytes, 3);
-    let is_spelled = bytes.starts_with(&LSN) && is_zero(&bytes, 24, 64);
-    assert_eq!(rt;
-        (is_spelled, read_lsn(&bytes), read_lsn(&LSN)),
-        (true, Some(3), None)
-    );
+    same_bytes(&rt, &bytes[..24], &LSN);
+    same_bytes(&rt, &bytes[24..], &[0; 64]);
+    same(&rt, &[read_lsn(&bytes), read_lsn(&LSN)], &[Some(3), None]);
     // a version, the number beside its complement, and the last byte
     for at in [0usize, 8, 16, 87] {
         let mut other = bytes;
         other[at] = 7;
-        assert_eq!(rt; read_lsn(&other), None, "{at}");
+        same(&rt, &read_lsn(&other), &None);
     }
 }
 
@@ -102,8 +95,9 @@ const HEADER_PARTS: [(usize, &[u8]); 3] = [
 fn spells_journal_headers(rt: HostRuntime) {
     let mut bytes = [0xaa; JOURNAL_HEADER_LEN];
     put_journal_header(&mut bytes, 2);
-    assert_eq!(rt; missing(&bytes, &HEADER_PARTS), None);
-    assert!(rt; is_zero(&bytes, 26, 128) && is_zero(&bytes, 164, 8026));
+    same(&rt, &missing(&bytes, &HEADER_PARTS), &None);
+    let are_zero = [is_zero(&bytes, 26, 128), is_zero(&bytes, 164, 8026)];
+    same(&rt, &are_zero, &[true; 2]);
 }
 
 #[test]
@@ -118,14 +112,15 @@ fn tells_journal_headers_apart(rt: HostRuntime) {
     let other_version = read_journal_header(&bytes, 2);
     bytes[25] = 0;
     let unmarked = read_journal_header(&bytes, 2);
-    assert_eq!(rt;
-        [ours, other_file, short, other_version, unmarked],
-        [
+    same(
+        &rt,
+        &[ours, other_file, short, other_version, unmarked],
+        &[
             HeaderKind::Ours,
             HeaderKind::Broken,
             HeaderKind::Broken,
             HeaderKind::Foreign,
-            HeaderKind::Broken
-        ]
+            HeaderKind::Broken,
+        ],
     );
 }

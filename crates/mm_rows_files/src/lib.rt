@@ -12,6 +12,8 @@ mod frames;
 #[cfg(test)]
 mod journal_frames;
 #[cfg(test)]
+mod judging;
+#[cfg(test)]
 mod nstable;
 #[cfg(test)]
 mod ranges;

@@ -1,18 +1,17 @@
 //! Sets of places, and parts.
 
+use crate::judging::same;
 use mm_ranges::{
     Bytes, Closed, Made, MadeList, NoMemory, Part, Piece, PieceList, RangeIter, RangeSet, RoomSet,
     last_piece_decides, one_normal_form,
 };
 use std::alloc::{AllocError, Global};
-use std::test::Fail;
 
-fn all(alloc: Global, ranges: RangeIter<'_>) -> Result<Vec<(u32, u32, u32)>, AllocError> {
-    let mut list = Vec::new(alloc);
-    for range in ranges {
-        list.push(range)?;
-    }
-    Ok(list)
+/// The first ranges of a set.
+type Ranges = [Option<(u32, u32, u32)>; 3];
+
+fn first(mut ranges: RangeIter<'_>) -> Ranges {
+    [ranges.next(), ranges.next(), ranges.next()]
 }
 
 fn two_ranges(
@@ -37,54 +36,44 @@ fn weight(alloc: Global) -> Result<u64, NoMemory> {
 }
 
 /// The ranges of two sets, where the second is put into the first.
-fn merge(
-    alloc: Global,
-    set: &mut RangeSet,
-    more: &mut RangeSet,
-) -> Result<Vec<(u32, u32, u32)>, NoMemory> {
+fn merge(set: &mut RangeSet, more: &mut RangeSet) -> Result<Ranges, NoMemory> {
     two_ranges(set, (0, 10, 10), (0, 40, 10))?;
     two_ranges(more, (0, 20, 20), (2, 0, 1))?;
     set.merge(more)?;
     one_normal_form(set, set);
-    Ok(all(alloc, set.iter())?)
+    Ok(first(set.iter()))
 }
 
-fn merged(alloc: Global) -> Result<Vec<(u32, u32, u32)>, NoMemory> {
+fn merged(alloc: Global) -> Result<Ranges, NoMemory> {
     let mut set = RangeSet::new(alloc);
     let mut more = RangeSet::new(alloc);
-    merge(alloc, &mut set, &mut more)
+    merge(&mut set, &mut more)
 }
 
-/// How many ranges a set has once there is room for others, and then the ranges of it with the others.
-fn fill_room(
-    alloc: Global,
-    set: &mut RoomSet,
-    more: &mut RangeSet,
-) -> Result<(usize, Vec<(u32, u32, u32)>), NoMemory> {
+/// The ranges of a set once there is room for others, and then with the others.
+fn fill_room(set: &mut RoomSet, more: &mut RangeSet) -> Result<[Ranges; 2], NoMemory> {
     two_ranges(more, (0, 20, 20), (5, 0, 4096))?;
     set.make_room(more)?;
-    let before = all(alloc, set.iter())?.len();
+    let before = first(set.iter());
     set.give_back(more);
     set.make_room(more)?;
     set.merge(more);
-    Ok((before, all(alloc, set.iter())?))
+    Ok([before, first(set.iter())])
 }
 
-fn with_room(alloc: Global) -> Result<(usize, Vec<(u32, u32, u32)>), NoMemory> {
+fn with_room(alloc: Global) -> Result<[Ranges; 2], NoMemory> {
     let mut set = RoomSet::new(alloc);
     let mut more = RangeSet::new(alloc);
-    fill_room(alloc, &mut set, &mut more)
+    fill_room(&mut set, &mut more)
 }
 
 #[test]
-fn sets(rt: HostRuntime) -> Result<(), Fail> {
-    assert_eq!(rt; weight(rt.alloc())?, 20);
-    let ranges = merged(rt.alloc())?;
-    assert_eq!(rt; ranges.as_slice(), [(0, 10, 40), (2, 0, 1)].as_slice());
-    let (before, after) = with_room(rt.alloc())?;
-    assert_eq!(rt; before, 0);
-    assert_eq!(rt; after.as_slice(), [(0, 20, 20), (5, 0, 4096)].as_slice());
-    Ok(())
+fn sets(rt: HostRuntime) {
+    same(&rt, &weight(rt.alloc()), &Ok(20));
+    let ranges = [Some((0, 10, 40)), Some((2, 0, 1)), None];
+    same(&rt, &merged(rt.alloc()), &Ok(ranges));
+    let ranges = [Some((0, 20, 20)), Some((5, 0, 4096)), None];
+    same(&rt, &with_room(rt.alloc()), &Ok([[None; 3], ranges]));
 }
 
 fn moves_between_threads<T: Send + Sync>(_: &T) {}
@@ -130,7 +119,7 @@ fn look(part: &Part) -> (usize, bool, bool) {
     (part.name.as_slice().len(), has_made, has_byte)
 }
 
-fn seen(alloc: Global) -> Result<(usize, bool, bool), AllocError> {
+fn seen(alloc: Global) -> Result<(usize, bool, bool), NoMemory> {
     let closed = closed(alloc)?;
     moves_between_threads(&closed);
     moves_between_threads(&RoomSet::new(alloc));
@@ -138,7 +127,6 @@ fn seen(alloc: Global) -> Result<(usize, bool, bool), AllocError> {
 }
 
 #[test]
-fn parts(rt: HostRuntime) -> Result<(), Fail> {
-    assert_eq!(rt; seen(rt.alloc())?, (0, true, true));
-    Ok(())
+fn parts(rt: HostRuntime) {
+    same(&rt, &seen(rt.alloc()), &Ok((0, true, true)));
 }

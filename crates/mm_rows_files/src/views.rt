@@ -2,11 +2,11 @@
 
 ghost use Rattle.std.specs.Prelude.{◌≤◌};
 
+use crate::judging::same;
 use mm_base::NoMemory;
 use mm_ranges::Part;
 use mm_views::{Draft, Views};
 use std::alloc::Global;
-use std::test::Fail;
 
 fn moves_between_threads<T: Send + Sync>(_: &T) {}
 
@@ -53,12 +53,25 @@ fn adopted(mut draft: Draft) -> Views {
     }
 }
 
-fn group(views: &mut Views) -> Result<Part, NoMemory> {
+/// How many files a part has made, and whether its one piece is that of the eight bytes.
+fn look_at_part(part: &Part) -> (usize, bool) {
+    let has_eight = match part.pieces.as_slice() {
+        [piece] => {
+            let bytes = piece.bytes.as_slice();
+            (piece.file, piece.at) == (0, 100) && bytes == [1, 2, 3, 4, 5, 6, 7, 8].as_slice()
+        }
+        _ => false,
+    };
+    (part.made.as_slice().len(), has_eight)
+}
+
+/// Closes the group, and applies it.
+fn group(views: &mut Views) -> Result<(usize, bool), NoMemory> {
     views.ready()?;
     let part = views.close();
     views.remap();
     views.apply();
-    Ok(part)
+    Ok(look_at_part(&part))
 }
 
 /// A byte of each image, where the file has it: the private one by two calls, and the shared one.
@@ -93,29 +106,21 @@ fn drafted(draft: &Draft, at: u32) -> [Option<u8>; 2] {
     found
 }
 
-/// What is seen of views.
-#[derive(Clone, Copy, Debug, PartialEq, Eq)]
-struct Seen {
-    weight: u64,
-    bytes: [Option<u8>; 3],
-    made: [Option<u32>; 2],
-}
+/// What is seen of views: their weight, a byte, and how long the file 1 is in the private and in the shared image.
+type Seen = (u64, [Option<u8>; 3], [Option<u32>; 2]);
 
 fn look(views: &Views, at: u32) -> Seen {
     moves_between_threads(views);
-    Seen {
-        weight: views.weight(),
-        bytes: bytes(views, at),
-        made: [views.len(1), views.shared_len(1)],
-    }
+    let made = [views.len(1), views.shared_len(1)];
+    (views.weight(), bytes(views, at), made)
 }
 
-/// What is seen of the views of a draft that is adopted, their group, and what is seen of them then.
-fn after_group(draft: Draft) -> (Seen, Result<Part, NoMemory>, Seen) {
+/// What is seen of the views of a draft that is adopted and once its group is applied, and what the group has.
+fn after_group(draft: Draft) -> ([Seen; 2], Result<(usize, bool), NoMemory>) {
     let mut views = adopted(draft);
     let before = look(&views, 100);
     let part = group(&mut views);
-    (before, part, look(&views, 107))
+    ([before, look(&views, 107)], part)
 }
 
 /// What a draft that writes eight bytes weighs, with the draft.
@@ -130,57 +135,26 @@ fn of_a_file(alloc: Global) -> (Result<u64, NoMemory>, Draft) {
     (make_file(&mut draft), draft)
 }
 
-/// What is seen of views with no file that was made.
-fn unmade(weight: u64, bytes: [Option<u8>; 3]) -> Seen {
-    Seen {
-        weight,
-        bytes,
-        made: [None, None],
-    }
-}
-
-// A draft that writes eight bytes in two intents that touch, its group, and the apply of that.
+/// A draft that writes eight bytes in two intents that touch, its group, and the apply of that.
 #[test]
-fn one_group(rt: HostRuntime) -> Result<(), Fail> {
+fn one_group(rt: HostRuntime) {
     let (weight, draft) = of_writes(rt.alloc());
-    let (before, part, after) = after_group(draft);
-    let seen = [
-        unmade(20, [Some(1), Some(1), Some(0)]),
-        unmade(0, [Some(8), Some(8), Some(8)]),
-    ];
-    assert_eq!(rt; (weight, [before, after]), (Ok(20), seen));
-    let part = part?;
-    let counts = (part.made.as_slice().len(), part.pieces.as_slice().len());
-    assert_eq!(rt; counts, (0, 1));
-    for piece in part.pieces.as_slice() {
-        assert_eq!(rt;
-            (piece.file, piece.at, piece.bytes.as_slice()),
-            (0, 100, [1, 2, 3, 4, 5, 6, 7, 8].as_slice())
-        );
-    }
-    Ok(())
+    let (seen, part) = after_group(draft);
+    let written = (20, [Some(1), Some(1), Some(0)], [None; 2]);
+    let applied = (0, [Some(8); 3], [None; 2]);
+    same(&rt, &seen, &[written, applied]);
+    same(&rt, &(weight, part), &(Ok(20), Ok((0, true))));
 }
 
-// A file that is made weighs 12, and is in the shared image once its part is applied.
+/// A file that is made weighs 12, and is in the shared image once its part is applied.
 #[test]
-fn a_made_file(rt: HostRuntime) -> Result<(), Fail> {
+fn a_made_file(rt: HostRuntime) {
     let (weight, draft) = of_a_file(rt.alloc());
-    let (before, part, after) = after_group(draft);
-    let first = Seen {
-        weight: 12,
-        bytes: [None; 3],
-        made: [Some(4096), None],
-    };
-    let then = Seen {
-        weight: 0,
-        made: [Some(4096); 2],
-        ..first
-    };
-    assert_eq!(rt; (weight, [before, after]), (Ok(12), [first, then]));
-    let part = part?;
-    let counts = (part.made.as_slice().len(), part.pieces.as_slice().len());
-    assert_eq!(rt; counts, (1, 0));
-    Ok(())
+    let (seen, part) = after_group(draft);
+    let made = (12, [None; 3], [Some(4096), None]);
+    let applied = (0, [None; 3], [Some(4096); 2]);
+    same(&rt, &seen, &[made, applied]);
+    same(&rt, &(weight, part), &(Ok(12), Ok((1, false))));
 }
 
 /// What a draft weighs that has written eight bytes and made a file.
@@ -189,21 +163,27 @@ fn write_and_make(draft: &mut Draft) -> Result<u64, NoMemory> {
     make_file(draft)
 }
 
-/// Bytes of a draft before and after it writes and makes a file, what it weighs then, and what is seen once it is given
-/// up.
-fn given_up_of(mut draft: Draft) -> ([[Option<u8>; 2]; 2], Result<u64, NoMemory>, [Seen; 2]) {
-    let before = drafted(&draft, 11);
-    let weight = write_and_make(&mut draft);
-    let after = drafted(&draft, 100);
+/// What is seen of the views of a draft that is given up.
+fn given_up(draft: Draft) -> [Seen; 2] {
     let views = draft.give_up();
-    let seen = [look(&views, 100), look(&views, 11)];
-    ([before, after], weight, seen)
+    [look(&views, 100), look(&views, 11)]
 }
 
-// A draft that is given up leaves nothing.
+/// Bytes of a draft before and after it writes and makes a file, and what it weighs then.
+fn changed(draft: &mut Draft) -> ([[Option<u8>; 2]; 2], Result<u64, NoMemory>) {
+    let before = drafted(draft, 11);
+    let weight = write_and_make(draft);
+    ([before, drafted(draft, 100)], weight)
+}
+
+/// A draft that is given up leaves nothing.
 #[test]
-fn given_up(rt: HostRuntime) {
-    let (bytes, weight, seen) = given_up_of(loaded(rt.alloc(), 8192).draft());
-    assert_eq!(rt; (bytes, weight), ([[Some(8); 2], [Some(1); 2]], Ok(32)));
-    assert_eq!(rt; seen, [unmade(0, [Some(0); 3]), unmade(0, [Some(8); 3])]);
+fn leaves_nothing(rt: HostRuntime) {
+    let mut draft = loaded(rt.alloc(), 8192).draft();
+    let found = changed(&mut draft);
+    same(&rt, &found, &([[Some(8); 2], [Some(1); 2]], Ok(32)));
+    let seen = given_up(draft);
+    let none = (0, [Some(0); 3], [None; 2]);
+    let loaded = (0, [Some(8); 3], [None; 2]);
+    same(&rt, &seen, &[none, loaded]);
 }
