@@ -16,8 +16,10 @@ use Rattle.mm_bson.specs.Tree.{Tree, min_key, null, int32, int64, string, docume
 use Rattle.mm_bson.specs.Named.{named}
 use Rattle.mm_bson.specs.Spelling.{type_byte, framed, text_spelling, value_spelling, elements_spelling, values_spelling, spelling, IsName, HasNoZero, IsValue, AreElements, AreValues, IsDocument}
 use Rattle.mm_bson.specs.Reading.{Reader, is_due, type_at, number_at, name_at, string_at, binary_at, boolean_at, len_at, document_at, value_at, element_at, elements_at, body, nested_at, whole}
+use Rattle.mm_bson.specs.Piece.{text_at}
 use Rattle.mm_bson.proofs.Bytes.{wide32, wide64, number_again}
 use Rattle.mm_bson.proofs.Numbered.{unnamed_again, numbered_spelling, numeral_is_name, is_itself}
+use Rattle.mm_bson.proofs.Parts.{string_parts}
 use Rattle.std.specs.Fmt.{decimal}
 
 -- ---- names
@@ -42,9 +44,9 @@ name_again due end name rest h is_it =
 
 -- ---- texts
 
-pub string_again : (end : ℕ) (s rest : List ℕ) → is_utf8 s ≡ true → length (text_spelling s) < 2 ^ 32 → string_at end (text_spelling s ++ rest) ≡ Ok (s, rest)
-unfolding string_at text_spelling
-string_again end s rest text lt =
+pub text_again : (end : ℕ) (s rest : List ℕ) → length (text_spelling s) < 2 ^ 32 → text_at end (text_spelling s ++ rest) ≡ Ok (s, rest)
+unfolding text_at text_spelling
+text_again end s rest lt =
     let n : ℕ = length s + 1 in
     let tail : List ℕ = (s ++ 0 ∷ []) ++ rest in
     let joined : tail ≡ s ++ 0 ∷ rest = append_assoc s (0 ∷ []) rest in
@@ -55,7 +57,10 @@ string_again end s rest text lt =
     let last : get_or tail (length s) 0 ≡ 0 = ap (λ (x : List ℕ). get_or x (length s) 0) joined ∙ get_or-append_seam s 0 rest 0 in
     let front : take (length s) tail ≡ s = ap (take (length s)) joined ∙ take_at s (0 ∷ rest) (length s) refl in
     let after : drop n tail ≡ rest = drop_at (s ++ 0 ∷ []) rest n (omega (arith, length-append s (0 ∷ []))) in
-    ap (string_at end) (append_assoc (to_le_bytes w32 n) (s ++ 0 ∷ []) rest) ∙ rw (number_again w32 (2 ^ 32) wide32 end n tail small, some, long, back, last, front, text, after) refl
+    ap (text_at end) (append_assoc (to_le_bytes w32 n) (s ++ 0 ∷ []) rest) ∙ rw (number_again w32 (2 ^ 32) wide32 end n tail small, some, long, back, last, front, after) refl
+
+pub string_again : (end : ℕ) (s rest : List ℕ) → is_utf8 s ≡ true → length (text_spelling s) < 2 ^ 32 → string_at end (text_spelling s ++ rest) ≡ Ok (s, rest)
+string_again end s rest text lt = string_parts end (text_spelling s ++ rest) ∙ rw (text_again end s rest lt, text) refl
 
 -- ---- documents
 

@@ -53,9 +53,9 @@ bind_same (Ok x) f g h = h x refl
 bind_same (Err e) f g h = refl
 
 -- the text of a string is looked at last
-string_parts : (read : Reader) (end : ℕ) (bytes : List ℕ) → string_at end bytes ≡ (text_at end bytes >>= λ s. cond (is_utf8 s.0) (texts s.0 s.1) (Err (BadUtf8 (end - (length s.1 + (length s.0 + 1))))))
+pub string_parts : (end : ℕ) (bytes : List ℕ) → string_at end bytes ≡ (text_at end bytes >>= λ s. cond (is_utf8 s.0) (texts s.0 s.1) (Err (BadUtf8 (end - (length s.1 + (length s.0 + 1))))))
 unfolding string_at text_at
-string_parts read end bytes = by (number_at w32 end bytes)
+string_parts end bytes = by (number_at w32 end bytes)
   where
     by : (r : Result (ℕ × List ℕ) BsonFault)
         → (r >>= λ n. cond (eqb n.0 0 || ltb (length n.1) n.0) (bad_length end bytes) (cond (eqb (get_or n.1 (n.0 - 1) 0) 0) (text_to end n.1 n.0) (bad_length end bytes)))
@@ -108,7 +108,7 @@ value_parts read kind.Boolean end bytes = sym (bind_then (boolean_at end bytes) 
 value_parts read kind.Null end bytes = refl
 value_parts read kind.MinKey end bytes = refl
 value_parts read kind.MaxKey end bytes = refl
-value_parts read kind.String end bytes = ap (λ (r : Result (List ℕ × List ℕ) BsonFault). r >>= λ s. trees (string s.0) s.1) (string_parts read end bytes) ∙ by (text_at end bytes)
+value_parts read kind.String end bytes = ap (λ (r : Result (List ℕ × List ℕ) BsonFault). r >>= λ s. trees (string s.0) s.1) (string_parts end bytes) ∙ by (text_at end bytes)
   where
     chosen : (b : Bool) (s : List ℕ × List ℕ) (e : BsonFault) → (cond b (texts s.0 s.1) (Err e) >>= λ s. trees (string s.0) s.1) ≡ (cond b (one_tree (string s.0)) (Err e) >>= λ t. trees t s.1)
     chosen true s e = refl

@@ -1,5 +1,5 @@
 -- Walking through bytes that are known to spell a document.
-use Rattle.std.proofs.Common.{◌≡◌, ℕ, ◌+◌, ◌-◌, ◌^◌, ◌<◌, ◌≤◌, true, false, eqb, ltb, List, [], ◌∷◌, ◌++◌, length, get_or, take, drop, ℤ, Result, Ok, Err, refl, sym, ap, subst, ◌∙◌, append_assoc, arith}
+use Rattle.std.proofs.Common.{◌≡◌, ℕ, ◌+◌, ◌-◌, ◌^◌, ◌<◌, ◌≤◌, true, false, eqb, ltb, List, [], ◌∷◌, ◌++◌, length, take, drop, ℤ, Result, Ok, Err, refl, sym, ap, subst, ◌∙◌, append_assoc, arith}
 use Rattle.std.specs.Int.{w32, w64, to_le_bytes, cast_unsigned}
 use Rattle.std.specs.Int.RustNames.{FitsSigned}
 use Rattle.std.specs.List.{prefix_len}
@@ -7,37 +7,21 @@ use Rattle.std.specs.Str.{is_utf8}
 use Rattle.std.proofs.lemmas.Bool.{le-ltb, lt-ltb}
 use Rattle.std.proofs.lemmas.Bool.Decides.{nat_tests}
 use Rattle.std.proofs.lemmas.Int.{to_z-of_z, ints}
-use Rattle.std.proofs.Math.Seq.{get_or-append_seam}
 use Rattle.std.proofs.lemmas.List.{take_at, drop_at, length-append}
 use Rattle.mm_bson.specs.declared.fault.BsonFault.{BsonFault}
 use Rattle.mm_bson.specs.declared.kind.Kind.TheVariants as kind
 use Rattle.mm_bson.specs.Tree.{Tree, min_key, null, int32, int64, string, document, array, binary, object_id, boolean, date, timestamp, max_key, Elements, no_elements, element, Values, no_values, item, depth, values_depth, count}
 use Rattle.mm_bson.specs.Named.{named, unnamed, AreNumbered}
-use Rattle.mm_bson.specs.Spelling.{framed, text_spelling, value_spelling, elements_spelling, values_spelling, spelling, array_spelling, IsName, IsValue, AreElements, AreValues, IsDocument}
+use Rattle.mm_bson.specs.Spelling.{framed, value_spelling, elements_spelling, values_spelling, spelling, array_spelling, IsName, IsValue, AreElements, AreValues, IsDocument}
 use Rattle.mm_bson.specs.Reading.{number_at, boolean_at, len_at, body}
-use Rattle.mm_bson.specs.Piece.{Piece, plain, inner_document, inner_array, text_at, framed_at, piece_at, cut_at, piece_for}
+use Rattle.mm_bson.specs.Piece.{Piece, plain, inner_document, inner_array, framed_at, piece_at, cut_at, piece_for}
 use Rattle.mm_bson.specs.Built.{IsBuilt, IsBuiltArray}
 use Rattle.mm_bson.specs.Walk.{or_nothing, elements_in, document_in, Spells, SpellsDocument, SpellsArray, IsHeld}
 use Rattle.mm_bson.proofs.Bytes.{ok_is, wide32, wide64, number_again}
 use Rattle.mm_bson.proofs.Numbered.{unnamed_again, named_again, numbered_spelling, numbered_depth, numbered_values, numeral_is_name}
-use Rattle.mm_bson.proofs.Again.{not_zero, name_len, kind_for, type_again, spelling_len, spelling_opened, spelling_parts, binary_again, element_len_is, count_le, elements_again}
+use Rattle.mm_bson.proofs.Again.{not_zero, name_len, text_again, kind_for, type_again, spelling_len, spelling_opened, spelling_parts, binary_again, element_len_is, count_le, elements_again}
 
 -- ---- pieces again
-
-text_again : (end : ℕ) (s rest : List ℕ) → length (text_spelling s) < 2 ^ 32 → text_at end (text_spelling s ++ rest) ≡ Ok (s, rest)
-unfolding text_at text_spelling
-text_again end s rest lt =
-    let n : ℕ = length s + 1 in
-    let tail : List ℕ = (s ++ 0 ∷ []) ++ rest in
-    let joined : tail ≡ s ++ 0 ∷ rest = append_assoc s (0 ∷ []) rest in
-    let small : n < 2 ^ 32 = omega (arith, length-append s (0 ∷ []), lt) in
-    let some : eqb n 0 ≡ false = grind (arith, nat_tests) in
-    let long : ltb (length tail) n ≡ false = le-ltb _ _ (omega (arith, ap length joined, length-append s (0 ∷ rest))) in
-    let back : n - 1 ≡ length s = omega arith in
-    let last : get_or tail (length s) 0 ≡ 0 = ap (λ (x : List ℕ). get_or x (length s) 0) joined ∙ get_or-append_seam s 0 rest 0 in
-    let front : take (length s) tail ≡ s = ap (take (length s)) joined ∙ take_at s (0 ∷ rest) (length s) refl in
-    let after : drop n tail ≡ rest = drop_at (s ++ 0 ∷ []) rest n (omega (arith, length-append s (0 ∷ []))) in
-    ap (text_at end) (append_assoc (to_le_bytes w32 n) (s ++ 0 ∷ []) rest) ∙ rw (number_again w32 (2 ^ 32) wide32 end n tail small, some, long, back, last, front, after) refl
 
 framed_again : (end : ℕ) (es : Elements) (rest : List ℕ) → length (spelling es) < 2 ^ 32 → framed_at end (spelling es ++ rest) ≡ Ok (spelling es, rest)
 unfolding framed_at len_at
