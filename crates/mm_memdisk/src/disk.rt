@@ -5,7 +5,7 @@ ghost use Rattle.mm_outside.specs.declared.disk.Device.TheVariants.{Fault};
 ghost use Rattle.mm_outside.specs.Fault.{HasCause};
 ghost use Rattle.mm_bytes.specs.Files.{read_from};
 ghost use Rattle.mm_outside.specs.Image.{bytes_at};
-ghost use Rattle.mm_outside.specs.Told.{Told, MayLeave, Becomes, IfTold, Counts, image_after, image_of, told_after, Creates, Writes, Resizes, Syncs, Removes};
+ghost use Rattle.mm_outside.specs.Told.{Told, MayLeave, Becomes, IfTold, Counts, image_after, image_of, told_after, called, Creates, Writes, Resizes, Syncs, Removes};
 ghost use Rattle.mm_memdisk.specs.Files.{Reads, image_of_entries};
 ghost use Rattle.mm_memdisk.specs.Calls.{calls_of, told_of, change_of, CanBegin, AreFit, counted};
 ghost use Rattle.mm_memdisk.specs.Fails.{FailsAsTold, faults_after, one_more, is_stopped};
@@ -15,7 +15,7 @@ use crate::crash::{Asked, leave};
 use crate::files::{Files, copy_from, push_names};
 use mm_base::NoMemory;
 use mm_outside::{Device, Disk};
-use std::alloc::Global;
+use std::alloc::{AllocError, Global};
 use std::collections::BTreeMap;
 
 /// A disk in memory. It tells all that it is asked, and fails only as it was told.
@@ -187,17 +187,32 @@ impl MemDisk {
         ensures stop { self.new.stop ≡ self.old.stop }
     {
         let is_done = !(self.is_told() || self.stops(self.calls.len() as u64 + 1));
+        self.keep(name, change, is_done)?;
+        if is_done {
+            return Ok(());
+        }
+        Err(self.fault())
+    }
+
+    // Keeps a call, and does it if it is to be done. Where memory is wanting, nothing has begun.
+    fn keep(&mut self, name: &str, change: Change, is_done: bool) -> Result<(), AllocError>
+        requires { CanBegin change }
+        ensures told { OnOk result (told_by self.new ≡ called name.now (change_of change) is_done (told_by self.old)) }
+        ensures moment { OnOk result (length self.new.calls.items ≡ length self.old.calls.items + 1) }
+        ensures err { OnErr result (told_by self.new ≡ told_by self.old) }
+        ensures moment_err { OnErr result (length self.new.calls.items ≡ length self.old.calls.items) }
+        ensures faults { self.new.fault_count ≡ self.old.fault_count }
+        ensures made { self.new.made ≡ self.old.made }
+        ensures failing { self.new.failing ≡ self.old.failing }
+        ensures stop { self.new.stop ≡ self.old.stop }
+    {
         let name = String::from_str(self.alloc, name)?;
         let begun = Begun {
             name,
             change,
             is_done,
         };
-        call::begin(self.alloc, &mut self.files, &mut self.calls, begun)?;
-        if is_done {
-            return Ok(());
-        }
-        Err(self.fault())
+        call::begin(self.alloc, &mut self.files, &mut self.calls, begun)
     }
 }
 

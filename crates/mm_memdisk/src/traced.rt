@@ -68,16 +68,31 @@ fn contents_of(alloc: Global, bytes: Vec<u8>) -> Result<Contents, AllocError>
 pub fn first_trace(alloc: Global, file: Option<&Vec<u8>>) -> Result<Traced, AllocError>
     ensures { IfOk result (λ traced. StartsAs (option_map (λ bytes. bytes.now.items) file.entry) traced) }
 {
-    let Some(bytes) = file else {
-        return Ok(Traced {
-            contents: None,
-            pending: settled(alloc, 0),
-        });
-    };
+    match file {
+        Some(bytes) => present(alloc, bytes),
+        None => Ok(absent(alloc)),
+    }
+}
+
+// No file at first.
+fn absent(alloc: Global) -> Traced
+    ensures { StartsAs None result }
+{
+    Traced {
+        contents: None,
+        pending: settled(alloc, 0),
+    }
+}
+
+// A file that is there at first.
+fn present(alloc: Global, bytes: &[u8]) -> Result<Traced, AllocError>
+    ensures { IfOk result (λ traced. StartsAs (Some bytes.now) traced) }
+{
+    let pending = settled(alloc, bytes.len() as u64);
     let contents = contents_of(alloc, bytes.to_vec(alloc)?)?;
     Ok(Traced {
         contents: Some(contents),
-        pending: settled(alloc, bytes.len() as u64),
+        pending,
     })
 }
 
