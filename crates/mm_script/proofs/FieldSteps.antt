@@ -1,7 +1,7 @@
 -- Fields put behind others, one after the other.
-use Rattle.std.proofs.Common.{◌≡◌, ℕ, suc, ◌-◌, ◌<◌, max, Bool, true, false, cond, List, [], ◌∷◌, length, get_or, Some, refl, sym, ap, ◌∙◌, arith}
+use Rattle.std.proofs.Common.{◌≡◌, ℕ, suc, ◌+◌, ◌-◌, ◌<◌, ◌≤◌, max, Bool, true, false, cond, List, [], ◌∷◌, length, get_or, drop, Some, refl, sym, ap, ◌∙◌, arith}
 use Rattle.std.specs.Str.{bytes_eq}
-use Rattle.std.proofs.lemmas.List.{take_all}
+use Rattle.std.proofs.lemmas.List.{take_all, drop_more, drop_all}
 use Rattle.std.proofs.Math.Nat.{le-max_right}
 use Rattle.std.proofs.lemmas.Slice.Eq.{bytes_eq-Decides}
 use Rattle.mm_bson.specs.declared.doc.Element.{Element}
@@ -27,6 +27,13 @@ first_is first (x ∷ xs) lt e = rw (others_are x xs) (ap (λ (y : Element). ele
 pub none_left : (xs : List Element) → length xs < 1 → elements_of xs ≡ no_elements
 none_left [] lt = refl
 none_left (x ∷ xs) lt = absurd (omega arith)
+
+-- the same from a place of the list on
+pub first_from : (first : Element) (xs : List Element) (i : ℕ) → i < length xs → first ≡ get_or xs i first → elements_of (drop i xs) ≡ element first.name (tree first.value) (elements_of (drop (i + 1) xs))
+first_from first xs i lt e = ap elements_of (drop_more xs i first lt) ∙ ap (λ (y : Element). element y.name (tree y.value) (elements_of (drop (i + 1) xs))) (sym e)
+
+pub none_from : (xs : List Element) (i : ℕ) → length xs ≤ i → elements_of (drop i xs) ≡ no_elements
+none_from xs i le = ap elements_of (drop_all i xs le)
 
 pub field_on : (doc new rest all : Elements) (name : List ℕ) (t : Tree) → append doc (element name t rest) ≡ all → new ≡ append doc (element name t no_elements) → append new rest ≡ all
 field_on doc new rest all name t so_far is = ap (λ (d : Elements). append d rest) is ∙ append_assoc doc (element name t no_elements) rest ∙ so_far

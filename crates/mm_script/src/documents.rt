@@ -165,10 +165,8 @@ fn add_all(doc: &mut Doc, fields: &[Element]) -> Result<(), NoMemory>
     requires levels { depth (elements_of fields.now) < 100 }
     ensures { OnOk result (doc.new ≡ append doc.old (elements_of fields.now)) }
 {
-    let mut rest = fields;
-    'fields: while let [first, others @ ..] = rest {
-        add(doc, first.name.copy()?, first.value.copy()?)?;
-        rest = others;
+    for field in fields {
+        add(doc, field.name.copy()?, field.value.copy()?)?;
     }
     Ok(())
 }
