@@ -149,12 +149,7 @@ fn text_of(bytes: &[u8], end: usize) -> Result<(Raw<'_>, &[u8]), BsonFault>
 {
     let (len, rest) = u32_at(bytes, end)?;
     let len = len as usize;
-    if len == 0 || rest.len() < len {
-        return Err(BsonFault::BadLength {
-            at: end - bytes.len(),
-        });
-    }
-    if rest[len - 1] != 0 {
+    if len == 0 || rest.len() < len || rest[len - 1] != 0 {
         return Err(BsonFault::BadLength {
             at: end - bytes.len(),
         });
@@ -268,8 +263,10 @@ fn framed_of(bytes: &[u8], end: usize) -> Result<(&[u8], &[u8]), BsonFault>
     ensures framed { IfOk result (λ x. IsFramed x.0.now) }
     ensures left { IfOk result (λ x. length x.1.now + length x.0.now ≤ length bytes.now) }
 {
-    let len = len_of(bytes, end)?;
-    Ok(bytes.split_at(len))
+    match len_of(bytes, end) {
+        Ok(len) => Ok(bytes.split_at(len)),
+        Err(fault) => Err(fault),
+    }
 }
 
 // The readers of values, one for each type.
@@ -282,8 +279,10 @@ fn int32_of(bytes: &[u8], end: usize) -> Result<(Raw<'_>, &[u8]), BsonFault>
     ensures framed { IfOk result (λ x. IsPieceFramed (piece x.0)) }
     ensures left { IfOk result (λ x. length x.1.now + piece_len (piece x.0) ≤ length bytes.now) }
 {
-    let (bits, rest) = u32_at(bytes, end)?;
-    Ok((Raw::Int32(bits.cast_signed()), rest))
+    match u32_at(bytes, end) {
+        Ok((bits, rest)) => Ok((Raw::Int32(bits.cast_signed()), rest)),
+        Err(fault) => Err(fault),
+    }
 }
 
 #[tactic(auto, unfolding(crate::specs::Piece::piece_at))]
@@ -294,8 +293,10 @@ fn int64_of(bytes: &[u8], end: usize) -> Result<(Raw<'_>, &[u8]), BsonFault>
     ensures framed { IfOk result (λ x. IsPieceFramed (piece x.0)) }
     ensures left { IfOk result (λ x. length x.1.now + piece_len (piece x.0) ≤ length bytes.now) }
 {
-    let (bits, rest) = u64_at(bytes, end)?;
-    Ok((Raw::Int64(bits.cast_signed()), rest))
+    match u64_at(bytes, end) {
+        Ok((bits, rest)) => Ok((Raw::Int64(bits.cast_signed()), rest)),
+        Err(fault) => Err(fault),
+    }
 }
 
 #[tactic(auto, unfolding(crate::specs::Piece::piece_at))]
@@ -306,8 +307,10 @@ fn date_of(bytes: &[u8], end: usize) -> Result<(Raw<'_>, &[u8]), BsonFault>
     ensures framed { IfOk result (λ x. IsPieceFramed (piece x.0)) }
     ensures left { IfOk result (λ x. length x.1.now + piece_len (piece x.0) ≤ length bytes.now) }
 {
-    let (bits, rest) = u64_at(bytes, end)?;
-    Ok((Raw::Date(bits.cast_signed()), rest))
+    match u64_at(bytes, end) {
+        Ok((bits, rest)) => Ok((Raw::Date(bits.cast_signed()), rest)),
+        Err(fault) => Err(fault),
+    }
 }
 
 #[tactic(auto, unfolding(crate::specs::Piece::piece_at))]
@@ -343,14 +346,14 @@ pub(crate) fn value_of(kind: Kind, bytes: &[u8], end: usize) -> Result<(Raw<'_>,
         Kind::Null => Ok((Raw::Null, bytes)),
         Kind::MinKey => Ok((Raw::MinKey, bytes)),
         Kind::MaxKey => Ok((Raw::MaxKey, bytes)),
-        Kind::Document => {
-            let (document, rest) = framed_of(bytes, end)?;
-            Ok((Raw::Document(document), rest))
-        }
-        Kind::Array => {
-            let (list, rest) = framed_of(bytes, end)?;
-            Ok((Raw::Array(list), rest))
-        }
+        Kind::Document => match framed_of(bytes, end) {
+            Ok((document, rest)) => Ok((Raw::Document(document), rest)),
+            Err(fault) => Err(fault),
+        },
+        Kind::Array => match framed_of(bytes, end) {
+            Ok((list, rest)) => Ok((Raw::Array(list), rest)),
+            Err(fault) => Err(fault),
+        },
     }
 }
 
