@@ -1,15 +1,14 @@
 -- How long keys are, and the values in them.
-use Rattle.std.proofs.Common.{◌≡◌, ℕ, suc, ◌+◌, ◌-◌, ◌<◌, ◌≤◌, get_or, Bool, true, false, cond, List, [], ◌∷◌, ◌++◌, length, Option, Some, None, inl, inr, refl, sym, ap, subst, ◌∙◌, arith}
+use Rattle.std.proofs.Common.{◌≡◌, ℕ, suc, ◌+◌, ◌-◌, ◌≤◌, Bool, true, false, cond, List, [], ◌∷◌, ◌++◌, length, Option, Some, None, inl, inr, refl, sym, ap, subst, ◌∙◌, arith}
 use Rattle.std.specs.Prelude.{option_and_then, IsTrue, ◌↔◌}
 use Rattle.std.specs.Str.{bytes_eq}
-use Rattle.std.proofs.lemmas.List.{length-append, take_all}
+use Rattle.std.proofs.lemmas.List.{length-append}
 use Rattle.mm_bson.specs.declared.doc.Element.{Element}
-use Rattle.mm_bson.specs.View.{tree, elements_of}
+use Rattle.mm_bson.specs.View.{elements_of}
 use Rattle.mm_bson.specs.Tree.{Tree, document, Elements, no_elements, element, append}
 use Rattle.mm_bson.specs.Path.{names, find, onward, value_at, value_at_path}
 use Rattle.mm_bson.specs.Spelling.{spelling, framed, elements_spelling, value_spelling, element_len}
 use Rattle.mm_bson.proofs.Loop.{append_assoc}
-use Rattle.mm_bson.proofs.Copies.{others}
 use Rattle.mm_bson.proofs.Building.{spelling_len}
 use Rattle.mm_keys.specs.Specification.{fields}
 use Rattle.mm_keys.specs.Key.{keyed, key, key_len, IsArray, HasArray}
@@ -60,30 +59,9 @@ pub key_len-first : (d : Elements) (path : List ℕ) (t : Tree) (spec : Elements
 key_len-first d path t spec =
     omega (arith, spelling_len (key d (element path t spec)), first_len [] (keyed path d) (key d spec), spelling_len (key d spec))
 
-elements_len-append : (a b : Elements) → length (elements_spelling (append a b)) ≡ length (elements_spelling a) + length (elements_spelling b)
-elements_len-append no_elements b = omega arith
-elements_len-append (element n t es) b = omega (arith, first_len n t (append es b), first_len n t es, elements_len-append es b)
-
-pub spelling_len-append : (a b : Elements) → length (spelling (append a b)) + 5 ≡ length (spelling a) + length (spelling b)
-spelling_len-append a b = omega (arith, spelling_len (append a b), spelling_len a, spelling_len b, elements_len-append a b)
-
 pub fields_are : (xs : List Element) → fields (elements_of xs) ≡ length xs
 fields_are [] = refl
 fields_are (x ∷ xs) = ap suc (fields_are xs)
-
--- the fields of a list that is not empty are its first and the ones behind it
-pub first_is : (first : Element) (xs : List Element) → 0 < length xs → first ≡ get_or xs 0 first → elements_of xs ≡ element first.name (tree first.value) (elements_of (others xs))
-first_is first [] lt e = absurd (omega arith)
-first_is first (x ∷ xs) lt e = rw (others_are x xs) (ap (λ (y : Element). element y.name (tree y.value) (elements_of xs)) (sym e))
-  where
-    others_are : (x : Element) (xs : List Element) → others (x ∷ xs) ≡ xs
-    others_are x xs =
-        let n : suc (length xs) - 1 ≡ length xs = omega arith in
-        rw n (take_all (length xs) xs (omega arith))
-
-pub none_left : (xs : List Element) → length xs < 1 → elements_of xs ≡ no_elements
-none_left [] lt = refl
-none_left (x ∷ xs) lt = absurd (omega arith)
 
 -- one more field behind those of a key
 module _ (d done : Elements) (spec : Elements) (all : Elements) (so_far : append done (key d spec) ≡ all) where

@@ -9,20 +9,10 @@ use Rattle.mm_bson.specs.Order.{compare}
 use Rattle.mm_bson.proofs.Orders.{compare_total}
 use Rattle.mm_keys.specs.KeyOrder.{by_sign, first_sign, after_first, key_compare}
 
-reverse_reverse : (o : Ordering) → ordering_reverse (ordering_reverse o) ≡ o
-reverse_reverse Less = refl
-reverse_reverse Equal = refl
-reverse_reverse Greater = refl
-
 reverse_then : (o p : Ordering) → ordering_reverse (ordering_then o p) ≡ ordering_then (ordering_reverse o) (ordering_reverse p)
 reverse_then Less p = refl
 reverse_then Equal p = refl
 reverse_then Greater p = refl
-
-reverse_less : (o : Ordering) → ordering_reverse o ≡ Less → o ≡ Greater
-reverse_less Less e = cc
-reverse_less Equal e = cc
-reverse_less Greater e = refl
 
 reverse_equal : (o : Ordering) → ordering_reverse o ≡ Equal → o ≡ Equal
 reverse_equal Less e = cc
