@@ -20,7 +20,7 @@ const BIG_STEP: usize = 1_048_576;
 const RECORD_HEADER: usize = 16;
 
 /// The answer to one insert.
-#[derive(Clone, Copy, Debug, PartialEq, Eq)]
+#[derive(Clone, Copy)]
 pub enum Reply {
     /// It is stored.
     Done,

@@ -17,7 +17,7 @@ use std::alloc::Global;
 const LEAST_LEN: i32 = 32;
 
 /// Where a link leads.
-#[derive(Clone, Copy, Debug, PartialEq, Eq)]
+#[derive(Clone, Copy)]
 pub enum Link {
     /// Nowhere: the chain ends.
     End,

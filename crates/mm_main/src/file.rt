@@ -34,7 +34,7 @@ pub const VERSION_MINOR: u32 = 5;
 const NAMESPACE_LEN: usize = 128;
 
 /// Where the blocks of the records end, and the offset of the last record, if there is one.
-#[derive(Clone, Copy, Debug, PartialEq, Eq)]
+#[derive(Clone, Copy)]
 pub struct Chain {
     pub end: usize,
     pub last: Option<usize>,

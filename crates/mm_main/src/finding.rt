@@ -7,7 +7,7 @@ use mm_base::NoMemory;
 use std::alloc::{AllocError, AllocFailed};
 
 /// A part of a data file's format.
-#[derive(Clone, Copy, Debug, PartialEq, Eq)]
+#[derive(Clone, Copy)]
 pub enum What {
     /// The file's length or its header.
     File,
@@ -22,7 +22,7 @@ pub enum What {
 }
 
 /// A place of the file, and what is wrong there.
-#[derive(Clone, Copy, Debug, PartialEq, Eq)]
+#[derive(Clone, Copy)]
 pub struct Finding {
     /// The offset in the file, in bytes.
     pub at: usize,
@@ -30,7 +30,7 @@ pub struct Finding {
 }
 
 /// Why a file isn't read.
-#[derive(Clone, Copy, Debug, PartialEq, Eq)]
+#[derive(Clone, Copy)]
 pub enum Unreadable {
     /// What is first wrong in it.
     Found(Finding),

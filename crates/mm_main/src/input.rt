@@ -12,7 +12,7 @@ pub const MOST_READ: usize = 67_108_865;
 const CHUNK: usize = 65_536;
 
 /// Why a source wasn't read.
-#[derive(Clone, Copy, Debug, PartialEq, Eq)]
+#[derive(Clone, Copy)]
 pub enum InputFault {
     Source,
     NoMemory,

@@ -7,7 +7,7 @@ use crate::fault::NoMemory;
 use std::alloc::{AllocError, AllocFailed};
 
 /// Where reading stops.
-#[derive(Clone, Copy, Debug, Drop)]
+#[derive(Clone, Copy, Drop)]
 pub(crate) enum Stop<'a> {
     /// The first byte of this text can't stand there; or the text ends too
     /// early, where this is empty.

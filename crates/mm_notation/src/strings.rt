@@ -12,7 +12,7 @@ use mm_bson::{Text, is_text};
 use std::alloc::{AllocError, Global};
 
 /// What a piece of a string stands for.
-#[derive(Clone, Copy, Debug)]
+#[derive(Clone, Copy)]
 pub(crate) enum Piece {
     Byte(u8),
     Character(char),

@@ -7,7 +7,7 @@ ghost use Rattle.mm_bson.specs.View.{tree};
 use mm_bson::Value;
 
 /// What a condition asks of a value.
-#[derive(Clone, Copy, Debug, PartialEq, Eq)]
+#[derive(Clone, Copy)]
 pub(crate) enum Operator {
     Gt,
     Gte,

@@ -8,7 +8,7 @@ use mm_bson::{Text, Value};
 use std::marker::Model;
 
 /// What an edit does at its path.
-#[derive(Clone, Copy, Debug, PartialEq, Eq)]
+#[derive(Clone, Copy, PartialEq, Eq)]
 pub(crate) enum Operator {
     Set,
     Unset,
