@@ -4,25 +4,49 @@ ghost use Rattle.std.specs.Prelude.{◌≤◌, IfOk};
 ghost use Rattle.mm_nstable.specs.Nodes.{IsTable};
 ghost use Rattle.mm_nstable.specs.Changes.{ns_of};
 
-use crate::nstable::Ask::{Find, Free, List, Put, Remove, Set};
+use crate::judging::same;
 use mm_base::{DiskLoc, Name, NoMemory};
 use mm_frames::{Details, IndexPair};
 use mm_nstable::{NsFault, details, find, free_nodes, insert, names, put_details, remove};
 use mm_views::{Draft, NS_FILE, Views};
 use std::alloc::Global;
-use std::test::Fail;
 
-/// What a table is asked: to put in a name with so many records, to say its node and that number, to write another
-/// number, to take the name out, how many nodes are free, and the first bytes of its names.
-#[derive(Clone, Copy)]
-enum Ask {
-    Put(Name, i64),
-    Find(Name),
-    Set(Name, i64),
-    Remove(Name),
-    Free,
-    List,
+/// What is done with a name: it's put in with so many records where it isn't there, another number is written, it's
+/// taken out, or it's only looked up.
+enum Act {
+    Put(i64),
+    Set(i64),
+    TakeOut,
+    LookUp,
 }
+
+/// The node of a name, and the number in its details.
+type Place = Option<(u32, i64)>;
+
+/// What is done, with which name, and where this is then.
+type Row = (Act, &'static [u8], Result<Place, NsFault>);
+
+/// Names go by their hashes, 0x08000061 and 0x08197e55, in a table of 1669 nodes.
+const WIDE: &[Row] = &[
+    (Act::Put(1), b"a", Ok(Some((183, 1)))),
+    (Act::Put(2), b"a.b", Ok(Some((158, 2)))),
+];
+
+/// In a table of three nodes the searches for the first three names begin at one of them. The node that is taken out
+/// stands in the run that the search for the third name goes through.
+const FULL: &[Row] = &[
+    (Act::Put(1), b"a", Ok(Some((0, 1)))),
+    (Act::Put(2), b"d", Ok(Some((1, 2)))),
+    (Act::Put(3), b"g", Ok(Some((2, 3)))),
+    (Act::Put(4), b"b", Err(NsFault::NsFull)),
+    (Act::Set(5), b"d", Ok(Some((1, 5)))),
+    (Act::LookUp, b"a", Ok(Some((0, 1)))),
+    (Act::LookUp, b"g", Ok(Some((2, 3)))),
+    (Act::TakeOut, b"d", Ok(None)),
+    (Act::LookUp, b"a", Ok(Some((0, 1)))),
+    (Act::LookUp, b"g", Ok(Some((2, 3)))),
+    (Act::Put(4), b"j", Ok(Some((1, 4)))),
+];
 
 /// A draft with a `.ns` of zeros.
 fn zeros(alloc: Global, len: u32) -> Result<Draft, NoMemory>
@@ -63,164 +87,131 @@ fn details_of(nrecords: i64) -> Details {
     }
 }
 
-/// The node that takes a name that isn't there.
-fn put(draft: &mut Draft, name: &Name, nrecords: i64) -> Result<Option<u32>, NsFault>
+fn put(draft: &mut Draft, name: &Name, nrecords: i64) -> Result<(), NsFault>
     requires { IsTable (ns_of draft.old) }
     ensures { IsTable (ns_of draft.new) }
 {
-    if find(draft, name).is_some() {
-        return Ok(None);
+    if find(draft, name).is_none() {
+        insert(draft, name, &details_of(nrecords))?;
     }
-    let node = insert(draft, name, &details_of(nrecords))?;
-    Ok(Some(node))
+    Ok(())
 }
 
-/// Takes a name out, or writes its number where one is given. It answers the name's node.
-fn change(draft: &mut Draft, name: &Name, nrecords: Option<i64>) -> Result<Option<u32>, NoMemory>
+fn set(draft: &mut Draft, name: &Name, nrecords: i64) -> Result<(), NsFault>
     requires { IsTable (ns_of draft.old) }
     ensures { IsTable (ns_of draft.new) }
 {
-    let Some(node) = find(draft, name) else {
-        return Ok(None);
-    };
-    match nrecords {
-        Some(nrecords) => put_details(draft, node, &details_of(nrecords))?,
-        None => remove(draft, node)?,
+    if let Some(node) = find(draft, name) {
+        put_details(draft, node, &details_of(nrecords))?;
     }
-    Ok(Some(node))
+    Ok(())
 }
 
-/// The node of a name, and the number in its details.
-fn look_up(draft: &Draft, name: &Name) -> Option<(u32, i64)>
+fn take_out(draft: &mut Draft, name: &Name) -> Result<(), NsFault>
+    requires { IsTable (ns_of draft.old) }
+    ensures { IsTable (ns_of draft.new) }
+{
+    if let Some(node) = find(draft, name) {
+        remove(draft, node)?;
+    }
+    Ok(())
+}
+
+fn look_up(draft: &Draft, name: &Name) -> Place
     requires { IsTable (ns_of draft.now) }
 {
     let node = find(draft, name)?;
     Some((node, details(draft, node).nrecords))
 }
 
-/// The first byte of each name, with its node.
-fn list(alloc: Global, draft: &Draft) -> Result<String, NoMemory>
+fn act_on(draft: &mut Draft, act: &Act, name: &Name) -> Result<(), NsFault>
+    requires { IsTable (ns_of draft.old) }
+    ensures { IsTable (ns_of draft.new) }
+{
+    match act {
+        Act::Put(nrecords) => put(draft, name, *nrecords),
+        Act::Set(nrecords) => set(draft, name, *nrecords),
+        Act::TakeOut => take_out(draft, name),
+        Act::LookUp => Ok(()),
+    }
+}
+
+/// Where a name is once that is done.
+fn answer(draft: &mut Draft, act: &Act, name: &Name) -> Result<Place, NsFault>
+    requires { IsTable (ns_of draft.old) }
+    ensures { IsTable (ns_of draft.new) }
+{
+    act_on(draft, act, name)?;
+    Ok(look_up(draft, name))
+}
+
+fn is_answered(draft: &mut Draft, row: &Row) -> bool
+    requires { IsTable (ns_of draft.old) }
+    ensures { IsTable (ns_of draft.new) }
+{
+    let (act, bytes, want) = row;
+    match Name::new(bytes) {
+        Some(name) => answer(draft, act, &name) == *want,
+        None => false,
+    }
+}
+
+/// The first of the rows that is answered otherwise.
+fn first_other(draft: &mut Draft, rows: &[Row]) -> Option<usize>
+    requires { IsTable (ns_of draft.old) }
+    ensures { IsTable (ns_of draft.new) }
+{
+    for (i, row) in rows.iter().enumerate() {
+        if !is_answered(draft, row) {
+            return Some(i);
+        }
+    }
+    None
+}
+
+/// The first byte of each of the first names, with its node.
+type Names = [Option<(u8, u32)>; 3];
+
+fn name_at(all: &[(Name, u32)], i: usize) -> Option<(u8, u32)> {
+    let (name, node) = all.get(i)?;
+    Some((*name.bytes().first()?, *node))
+}
+
+fn list(alloc: Global, draft: &Draft) -> Result<Names, NoMemory>
     requires { IsTable (ns_of draft.now) }
 {
     let mut all = Vec::new(alloc);
     names(draft, &mut all)?;
-    let mut out = String::new(alloc);
-    for (name, node) in all.as_slice() {
-        let first = name.bytes().first();
-        write!(out, "{first:?} {node} ")?;
-    }
-    Ok(out)
+    let all = all.as_slice();
+    Ok([name_at(all, 0), name_at(all, 1), name_at(all, 2)])
 }
 
-/// What a question is answered by.
-fn seen(alloc: Global, draft: &Draft, ask: Ask) -> Result<String, NoMemory>
-    requires { IsTable (ns_of draft.now) }
-{
-    match ask {
-        List => list(alloc, draft),
-        Find(name) => {
-            let found = look_up(draft, &name);
-            Ok(format!(in alloc; "{found:?}")?)
-        }
-        _ => {
-            let free = free_nodes(draft);
-            Ok(format!(in alloc; "{free} free")?)
-        }
-    }
-}
+/// The first of the rows that is answered otherwise, how many nodes are free before and after, and the names then.
+type Told = (Option<usize>, [u32; 2], Names);
 
-/// The node that a change answers.
-fn changed(draft: &mut Draft, ask: Ask) -> Result<Option<u32>, NsFault>
+fn play(alloc: Global, draft: &mut Draft, rows: &[Row]) -> Result<Told, NoMemory>
     requires { IsTable (ns_of draft.old) }
-    ensures { IsTable (ns_of draft.new) }
 {
-    match ask {
-        Put(name, nrecords) => put(draft, &name, nrecords),
-        Set(name, nrecords) => Ok(change(draft, &name, Some(nrecords))?),
-        Remove(name) => Ok(change(draft, &name, None)?),
-        _ => Ok(None),
-    }
+    let before = free_nodes(draft);
+    let other = first_other(draft, rows);
+    let names = list(alloc, draft)?;
+    Ok((other, [before, free_nodes(draft)], names))
 }
 
-/// The answer to one of the asks.
-fn answer(alloc: Global, draft: &mut Draft, ask: Ask) -> Result<String, NoMemory>
-    requires { IsTable (ns_of draft.old) }
-    ensures { IsTable (ns_of draft.new) }
-{
-    match ask {
-        Find(_) | Free | List => seen(alloc, draft, ask),
-        _ => {
-            let node = changed(draft, ask);
-            Ok(format!(in alloc; "{node:?}")?)
-        }
-    }
-}
-
-/// What a table answers, one after the other.
-fn told(alloc: Global, draft: &mut Draft, asks: &[Ask]) -> Result<String, NoMemory>
-    requires { IsTable (ns_of draft.old) }
-    ensures { IsTable (ns_of draft.new) }
-{
-    let mut out = String::new(alloc);
-    for ask in asks {
-        let text = answer(alloc, draft, *ask)?;
-        out.push_str(text.as_str())?;
-        out.push_str("; ")?;
-    }
-    Ok(out)
-}
-
-/// What a table of a new file of this length answers.
-fn told_of(alloc: Global, len: u32, asks: &[Ask]) -> Result<String, NoMemory>
+/// The same of a new file of this length.
+fn told(alloc: Global, len: u32, rows: &[Row]) -> Result<Told, NoMemory>
     requires { len ≤ 16777216 }
 {
     let mut draft = zeros(alloc, len)?;
-    told(alloc, &mut draft, asks)
+    play(alloc, &mut draft, rows)
 }
 
-fn name(bytes: &[u8]) -> Result<Name, Fail> {
-    Ok(Name::new(bytes).ok_or("no name")?)
-}
-
-// Where names go by their hashes, 0x08000061 and 0x08197e55, in a table of 1669 nodes.
 #[test]
-fn places_of_names(rt: HostRuntime) -> Result<(), Fail> {
-    let asks = [Free, Put(name(b"a")?, 1), Put(name(b"a.b")?, 2), Free];
-    let text = told_of(rt.alloc(), 1_048_576, &asks)?;
-    assert_eq!(rt;
-        text.as_str(),
-        "1669 free; Ok(Some(183)); Ok(Some(158)); 1667 free; "
-    );
-    Ok(())
-}
-
-// A table of three nodes, at one of which the searches for the first three names begin. The node that is taken out
-// stands in the run that the search for the third name goes through.
-#[test]
-fn a_full_table(rt: HostRuntime) -> Result<(), Fail> {
-    let a = name(b"a")?;
-    let d = name(b"d")?;
-    let g = name(b"g")?;
-    let asks = [
-        Put(a, 1),
-        Put(d, 2),
-        Put(g, 3),
-        Put(name(b"b")?, 4),
-        List,
-        Set(d, 5),
-        Find(a),
-        Find(d),
-        Find(g),
-        Remove(d),
-        Find(a),
-        Find(d),
-        Find(g),
-        Put(name(b"j")?, 4),
-    ];
-    let text = told_of(rt.alloc(), 2000, &asks)?;
-    assert_eq!(rt;
-        text.as_str(),
-        "Ok(Some(0)); Ok(Some(1)); Ok(Some(2)); Err(NsFull); Some(97) 0 Some(100) 1 Some(103) 2 ; Ok(Some(1)); Some((0, 1)); Some((1, 5)); Some((2, 3)); Ok(Some(1)); Some((0, 1)); None; Some((2, 3)); Ok(Some(1)); "
-    );
-    Ok(())
+fn tables(rt: HostRuntime) {
+    let names = [Some((b'a', 158)), Some((b'a', 183)), None];
+    let wide = told(rt.alloc(), 1_048_576, WIDE);
+    same(&rt, &wide, &Ok((None, [1669, 1667], names)));
+    let names = [Some((b'a', 0)), Some((b'j', 1)), Some((b'g', 2))];
+    let full = told(rt.alloc(), 2000, FULL);
+    same(&rt, &full, &Ok((None, [3, 0], names)));
 }
