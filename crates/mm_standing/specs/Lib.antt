@@ -1,3 +1,4 @@
 pub mod Documents
 pub mod Indexes
 pub mod Database
+pub mod Laws

@@ -1,0 +1,4 @@
+pub mod Names
+pub mod SameIndexes
+pub mod SameDocuments
+pub mod OneDatabase
