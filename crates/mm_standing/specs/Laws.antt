@@ -1,8 +1,12 @@
 -- What is said of files that stand for a database.
 use Rattle.std.specs.Prelude.{◌≡◌, ℕ, List}
-use Rattle.std.specs.FinMap.{get}
+use Rattle.std.specs.FinMap.{get, empty, insert}
 use Rattle.mm_ranges.specs.Overlay.{Image}
+use Rattle.mm_nstable.specs.Table.{Held, table_of}
+use Rattle.mm_records.specs.Stands.{ns_in}
 use Rattle.mm_model.specs.Database.{Database}
+use Rattle.mm_check.specs.NodeQuestions.{free_name, indexes_name}
+use Rattle.mm_namespaces.specs.Fresh.{IsNew}
 use Rattle.mm_standing.specs.Database.{HasDatabase, Stands}
 
 -- Two databases that the same files have are one: they have the same under each collection's name.
@@ -16,3 +20,8 @@ OneMap = (d : List ℕ) (image : Image) (a b : Database) → HasDatabase d image
 -- And files that stand for two, where there may be no file, stand for one.
 abbrev pub StandsForOne : Type 0
 StandsForOne = (d : List ℕ) (image : Image) (a b : Database) → Stands image d a → Stands image d b → a ≡ b
+
+-- New files, whose table has the two names of the database and no other, have the database without collections.
+abbrev pub NewFilesStand : Type 0
+NewFilesStand = (d : List ℕ) (image : Image) → IsNew image (free_name d) → (a b : Held) → table_of (ns_in image) ≡ insert (insert empty (free_name d) a) (indexes_name d) b
+    → HasDatabase d image empty

@@ -7,9 +7,10 @@
 //! - `HasIndexAt` (`specs/Indexes.antt`): the pair at a position names the record of the index, and the root of a tree that lists one pair of
 //!   key and place for each document, in the order of the index.
 //!
-//! The files of a database have one database alone (`one_database`).
+//! The files of a database have one database alone (`one_database`), and those of a new one have the one without collections
+//! (`new_files_stand`). Not said here: that any call but the making of new files leaves files that stand.
 #![tactic(auto)]
 
 mod laws;
 
-pub use laws::one_database;
+pub use laws::{new_files_stand, one_database};
