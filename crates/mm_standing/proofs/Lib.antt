@@ -3,3 +3,8 @@ pub mod SameIndexes
 pub mod SameDocuments
 pub mod OneDatabase
 pub mod NewFiles
+pub mod OneRoom
+pub mod IndexStays
+pub mod CollectionStays
+pub mod PlainNames
+pub mod OthersStay

@@ -1,4 +1,5 @@
 pub mod Documents
 pub mod Indexes
 pub mod Database
+pub mod Staying
 pub mod Laws

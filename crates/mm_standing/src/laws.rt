@@ -1,6 +1,6 @@
 //! Laws of files that stand for a database, each the contract of a function that does nothing.
 
-ghost use Rattle.mm_standing.specs.Laws.{OneDatabase, OneMap, StandsForOne, NewFilesStand};
+ghost use Rattle.mm_standing.specs.Laws.{OneDatabase, OneMap, StandsForOne, NewFilesStand, OthersStay};
 
 /// The files of a database have one database alone: two that they have hold the same under each collection's name, so they are one map.
 /// Files that stand for two stand for one, also where no file is there.
@@ -13,4 +13,11 @@ pub fn one_database()
 /// The files of a new database, as they are made, have the database without collections.
 pub fn new_files_stand()
     ensures { NewFilesStand }
+{}
+
+/// A change of the records of one collection and of its indexes leaves every other collection as it is, its indexes too: where the records of all
+/// other namespaces stay, those of the list of indexes too, and all nodes but the collection's keep what records, extents and deleted lists don't
+/// change of details.
+pub fn others_stay()
+    ensures { OthersStay }
 {}

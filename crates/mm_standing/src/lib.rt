@@ -8,9 +8,10 @@
 //!   key and place for each document, in the order of the index.
 //!
 //! The files of a database have one database alone (`one_database`), and those of a new one have the one without collections
-//! (`new_files_stand`). Not said here: that any call but the making of new files leaves files that stand.
+//! (`new_files_stand`). A change of one collection's records and of its indexes' leaves the other collections (`others_stay`; what stays is
+//! said in `specs/Staying.antt`). Not said here: that any call but the making of new files leaves files that stand.
 #![tactic(auto)]
 
 mod laws;
 
-pub use laws::{new_files_stand, one_database};
+pub use laws::{new_files_stand, one_database, others_stay};
