@@ -6,7 +6,7 @@ use Rattle.mm_bson.specs.Tree.{Elements}
 use Rattle.mm_ranges.specs.Overlay.{Image}
 use Rattle.mm_links.specs.Links.{Place}
 use Rattle.mm_records.specs.Shape.{Shape}
-use Rattle.mm_records.specs.Stands.{IsNode}
+use Rattle.mm_records.specs.Stands.{Stands, IsNode}
 use Rattle.mm_records.specs.Map.{live_at, name_at}
 use Rattle.mm_btree.specs.Nodes.{Item, Buckets}
 use Rattle.mm_btree.specs.Order.{item_lt}
@@ -23,22 +23,34 @@ use Rattle.mm_standing.proofs.OneRoom.{one_free, one_room}
 pub node_stays : (old new : Image) (free : List ℕ) (s t : Shape) → BothStand old new free s t → (node : ℕ) → IsNode old free node → IsNode new free node
 node_stays old new free s t b node n = record { used = b.names.used node ∙ n.used; isnt_free = λ e. n.isnt_free (sym (b.names.names node n.used) ∙ e) }
 
+-- Where files stand in a shape, the node of an index holds buckets in it, and the node of its collection isn't of the free chain.
+module _ (image : Image) (free : List ℕ) (s : Shape) (st : Stands image free s) (node owner position : ℕ) (spec : Elements) (pairs : List Item) (x : HasIndex image node owner position spec pairs) where
+  is_free : x.free ≡ free
+  is_free = one_free image free x.free s x.shape st x.holds.stands
+
+  held : Holds image free x.shape node
+  held = subst (λ (f : List ℕ). Holds image f x.shape node) is_free x.holds
+
+  pub holds_in : Holds image free s node
+  holds_in = record {
+    stands = st;
+    is_node = held.is_node;
+    rooms = λ p room e. held.rooms p room (sym (one_room image free s x.shape st held.stands node held.is_node p) ∙ e);
+  }
+
+  pub owner_in : IsNode image free owner
+  owner_in = subst (λ (f : List ℕ). IsNode image f owner) is_free x.owner_is
+
 module _ (old new : Image) (free : List ℕ) (s t : Shape) (b : BothStand old new free s t) (node owner position : ℕ) (spec : Elements) (pairs : List Item)
     (x : HasIndex old node owner position spec pairs) (same : SameRecords s t (name_at old node)) (k : SamePair old new owner position) where
-  is_free : x.free ≡ free
-  is_free = one_free old free x.free s x.shape b.before x.holds.stands
-
-  holds_old : Holds old free x.shape node
-  holds_old = subst (λ (f : List ℕ). Holds old f x.shape node) is_free x.holds
-
-  owner_old : IsNode old free owner
-  owner_old = subst (λ (f : List ℕ). IsNode old f owner) is_free x.owner_is
+  holds_old : Holds old free s node
+  holds_old = holds_in old free s b.before node owner position spec pairs x
 
   same_name : name_at new node ≡ name_at old node
   same_name = b.names.names node holds_old.is_node.used
 
-  same_rooms : (p : Place) → live_at t (name_at new node) p ≡ live_at x.shape (name_at old node) p
-  same_rooms p = ap (λ (m : List ℕ). live_at t m p) same_name ∙ same p ∙ one_room old free s x.shape b.before holds_old.stands node holds_old.is_node p
+  same_rooms : (p : Place) → live_at t (name_at new node) p ≡ live_at s (name_at old node) p
+  same_rooms p = ap (λ (m : List ℕ). live_at t m p) same_name ∙ same p
 
   holds_new : Holds new free t node
   holds_new = record {
@@ -50,7 +62,7 @@ module _ (old new : Image) (free : List ℕ) (s t : Shape) (b : BothStand old ne
   buckets_stay : (at : DiskLoc) → bucket_in new node at ≡ bucket_in old node at
   buckets_stay at =
       bucket_is new free t node holds_new at ∙ ap (λ (rooms : Place → Option (List ℕ)). shown_there rooms (spot_in at)) (λ i p. same_rooms p i)
-      ∙ sym (bucket_is old free x.shape node holds_old at)
+      ∙ sym (bucket_is old free s node holds_old at)
 
   same_root : root_in new owner position ≡ root_in old owner position
   same_root = ap (λ (q : IndexPair). q.head) k.pair
@@ -64,7 +76,7 @@ module _ (old new : Image) (free : List ℕ) (s t : Shape) (b : BothStand old ne
     free = free;
     shape = t;
     holds = holds_new;
-    owner_is = node_stays old new free s t b owner owner_old;
+    owner_is = node_stays old new free s t b owner (owner_in old free s b.before node owner position spec pairs x);
     inside = x.inside;
     counted = subst (λ (n : ℤ). pos position <ℤ n) (sym k.number) x.counted;
     height = x.height;

@@ -8,3 +8,15 @@ pub mod IndexStays
 pub mod CollectionStays
 pub mod PlainNames
 pub mod OthersStay
+pub mod Given
+pub mod Leaving
+pub mod IdsInOrder
+pub mod Comings
+pub mod ItemPlaces
+pub mod ItemPairs
+pub mod ItemKeys
+pub mod NameLists
+pub mod UsedNames
+pub mod CollForms
+pub mod OwnNames
+pub mod NodeCounts

@@ -2,7 +2,7 @@
 use Rattle.std.proofs.Common.{◌≡◌, ◌≢◌, ℕ, suc, ◌+◌, inl, inr, Bool, true, false, ◌&&◌, ◌||◌, ◌==◌, not, cond, List, [], ◌∷◌, ◌++◌, length, drop, get_or, Some, refl, sym, ◌∙◌, ap, arith}
 use Rattle.std.proofs.lemmas.Int.{ints}
 use Rattle.std.proofs.lemmas.Bool.{cases_Bool, false≢true}
-use Rattle.std.proofs.lemmas.List.{append_cancel_left, append_assoc}
+use Rattle.std.proofs.lemmas.List.{append_cancel_left, append_assoc, length-append}
 use Rattle.std.proofs.lemmas.List.Folds.{list_any-append}
 use Rattle.std.specs.List.{list_any, prefix_len}
 use Rattle.std.specs.FinMap.{get}
@@ -11,11 +11,13 @@ use Rattle.mm_nstable.specs.Nodes.{node_at, details_in}
 use Rattle.mm_nstable.specs.Table.{Held}
 use Rattle.mm_nstable.proofs.Tables.{table_at}
 use Rattle.mm_records.specs.Constants.{is_name, behind_dot, system_indexes, is_collection}
+use Rattle.mm_nstable.specs.FreeChain.{IsFreeName, free_list}
+use Rattle.mm_records.proofs.Freed.{name_own}
 use Rattle.mm_records.specs.Stands.{ns_in}
 use Rattle.mm_records.specs.Map.{name_at}
 use Rattle.mm_model.specs.Database.{Index, Collection, Database}
 use Rattle.mm_model.specs.Keyed.{namespace, full_name}
-use Rattle.mm_check.specs.NodeQuestions.{free_name}
+use Rattle.mm_check.specs.NodeQuestions.{free_name, indexes_name}
 use Rattle.mm_standing.specs.Database.{HasDatabase}
 use Rattle.mm_standing.proofs.OneRoom.{one_free}
 
@@ -52,9 +54,10 @@ plain_of d coll e =
     behind_plain d coll (sym (ap (λ (n : List ℕ). list_any (λ b. b == 36) (behind_dot n)) (append_assoc d (46 ∷ []) coll))
     ∙ not_and (list_any (λ b. b == 36) (behind_dot (namespace d coll))) (not (is_name (behind_dot (namespace d coll)) system_indexes)) e)
 
-pub plain : (d : List ℕ) (image : Image) (db : Database) → HasDatabase d image db → (coll : List ℕ) (c : Collection) → get db coll ≡ Some c → list_any (λ b. b == 36) coll ≡ false
-plain d image db h coll c e = elim (cases_Bool (is_collection (namespace d coll))) [
-  | inl y ↦ plain_of d coll y
+-- the details of its node count an index, as those of a collection alone do
+pub is_one : (d : List ℕ) (image : Image) (db : Database) → HasDatabase d image db → (coll : List ℕ) (c : Collection) → get db coll ≡ Some c → is_collection (namespace d coll) ≡ true
+is_one d image db h coll c e = elim (cases_Bool (is_collection (namespace d coll))) [
+  | inl y ↦ y
   | inr n ↦
       let x = h.collections coll c e in
       let long : length c.indexes ≡ suc (length (h.is_database coll c e).others) = ap (λ (is : List Index). length is) (h.is_database coll c e).first in
@@ -67,6 +70,39 @@ plain d image db h coll c e = elim (cases_Bool (is_collection (namespace d coll)
       let some = i.counted in
       absurd (omega (arith, ints, none, some))
 ]
+
+pub plain : (d : List ℕ) (image : Image) (db : Database) → HasDatabase d image db → (coll : List ℕ) (c : Collection) → get db coll ≡ Some c → list_any (λ b. b == 36) coll ≡ false
+plain d image db h coll c e = plain_of d coll (is_one d image db h coll c e)
+
+-- ---- the list of indexes is no collection
+
+-- the database's name has no dot, as its node of the free chain says
+behind_all : (d rest : List ℕ) → drop (prefix_len (λ b. not (b == 46)) (d ++ free_list)) (d ++ free_list) ≡ free_list → behind_dot (d ++ 46 ∷ rest) ≡ rest
+behind_all [] rest e = refl
+behind_all (x ∷ d) rest e = elim (cases_Bool (x == 46)) [
+  | inl y ↦
+      let f : x ∷ d ++ free_list ≡ free_list = sym (ap (λ (b : Bool). drop (cond (not b) (1 + prefix_len (λ b. not (b == 46)) (d ++ free_list)) 0) (x ∷ d ++ free_list)) y) ∙ e in
+      let l : suc (length (d ++ free_list)) ≡ length free_list = ap length f in
+      let m : length (d ++ free_list) ≡ length d + length free_list = length-append d free_list in
+      absurd (omega (arith, l, m))
+  | inr n ↦
+      let next : 1 + prefix_len (λ b. not (b == 46)) (d ++ 46 ∷ rest) ≡ suc (prefix_len (λ b. not (b == 46)) (d ++ 46 ∷ rest)) = omega arith in
+      let next' : 1 + prefix_len (λ b. not (b == 46)) (d ++ free_list) ≡ suc (prefix_len (λ b. not (b == 46)) (d ++ free_list)) = omega arith in
+      let f = sym (ap (λ (b : Bool). drop (cond (not b) (1 + prefix_len (λ b. not (b == 46)) (d ++ free_list)) 0) (x ∷ d ++ free_list)) n ∙ ap (λ (m : ℕ). drop m (x ∷ d ++ free_list)) next') ∙ e in
+      behind_from (d ++ 46 ∷ rest) x false n ∙ ap (λ (m : ℕ). drop m (d ++ 46 ∷ rest)) next ∙ behind_all d rest f
+]
+
+free_behind : (d rest : List ℕ) → IsFreeName (free_name d) → behind_dot (d ++ 46 ∷ rest) ≡ rest
+unfolding IsFreeName
+free_behind d rest e = behind_all d rest e
+
+not_list : (d : List ℕ) → behind_dot (indexes_name d) ≡ system_indexes → is_collection (indexes_name d) ≡ false
+unfolding is_collection
+not_list d e = ap (λ (n : List ℕ). not (list_any (λ b. b == 36) n) && not (is_name n system_indexes)) e ∙ ap (λ (b : Bool). true && not b) (name_own system_indexes system_indexes refl)
+
+pub isnt_list : (d : List ℕ) (image : Image) (db : Database) → HasDatabase d image db → (coll : List ℕ) (c : Collection) → get db coll ≡ Some c → namespace d coll ≢ indexes_name d
+isnt_list d image db h coll c e f =
+    false≢true (sym (not_list d (free_behind d system_indexes h.points.stands.free_chain.1.node.named)) ∙ sym (ap is_collection f) ∙ is_one d image db h coll c e)
 
 -- ---- names that are one
 
@@ -116,3 +152,7 @@ coll_or_index d a b index p e =
 pub one_owner : (d a b : List ℕ) (i j : Index) → list_any (λ x. x == 36) a ≡ false → list_any (λ x. x == 36) b ≡ false → full_name (namespace d a) i ≡ full_name (namespace d b) j → a ≡ b
 one_owner d a b i j p q e =
     cut a b i.name j.name p q (append_cancel_left (d ++ 46 ∷ []) (a ++ 46 ∷ 36 ∷ i.name) (b ++ 46 ∷ 36 ∷ j.name) (sym (in_full d a i) ∙ e ∙ in_full d b j))
+
+-- an index, and the list of indexes
+pub index_isnt_list : (d a : List ℕ) (index : Index) → full_name (namespace d a) index ≢ indexes_name d
+index_isnt_list d a index e = coll_or_index d system_indexes a index refl (append_assoc d (46 ∷ []) system_indexes ∙ sym e)

@@ -1,12 +1,12 @@
 -- What is said of files that stand for a database.
-use Rattle.std.specs.Prelude.{◌≡◌, ◌≢◌, ℕ, List, Some}
+use Rattle.std.specs.Prelude.{◌≡◌, ◌≢◌, ℕ, ◌+◌, List, Some, count_by}
 use Rattle.std.specs.FinMap.{get, empty, insert}
 use Rattle.mm_ranges.specs.Overlay.{Image}
-use Rattle.mm_nstable.specs.Nodes.{SameNames}
+use Rattle.mm_nstable.specs.Nodes.{SameNames, nodes_of, count_of, is_free}
 use Rattle.mm_nstable.specs.Table.{Held, table_of}
 use Rattle.mm_records.specs.Shape.{Shape}
 use Rattle.mm_records.specs.Stands.{ns_in}
-use Rattle.mm_model.specs.Database.{Collection, Database}
+use Rattle.mm_model.specs.Database.{Collection, Database, nodes_in}
 use Rattle.mm_check.specs.NodeQuestions.{free_name, indexes_name}
 use Rattle.mm_check.specs.Standing.{HasShape}
 use Rattle.mm_namespaces.specs.Fresh.{IsNew}
@@ -29,6 +29,10 @@ StandsForOne = (d : List ℕ) (image : Image) (a b : Database) → Stands image 
 abbrev pub NewFilesStand : Type 0
 NewFilesStand = (d : List ℕ) (image : Image) → IsNew image (free_name d) → (a b : Held) → table_of (ns_in image) ≡ insert (insert empty (free_name d) a) (indexes_name d) b
     → HasDatabase d image empty
+
+-- Each name of the database has one node, and the other nodes are free.
+abbrev pub NodesAreCounted : Type 0
+NodesAreCounted = (d : List ℕ) (image : Image) (db : Database) → HasDatabase d image db → nodes_in db + count_by is_free (nodes_of (ns_in image)) ≡ count_of (ns_in image)
 
 -- A change of the records of one collection and of its indexes leaves every other collection as it is, its indexes too.
 abbrev pub OthersStay : Type 0

@@ -7,11 +7,21 @@
 //! - `HasIndexAt` (`specs/Indexes.antt`): the pair at a position names the record of the index, and the root of a tree that lists one pair of
 //!   key and place for each document, in the order of the index.
 //!
-//! The files of a database have one database alone (`one_database`), and those of a new one have the one without collections
-//! (`new_files_stand`). A change of one collection's records and of its indexes' leaves the other collections (`others_stay`; what stays is
-//! said in `specs/Staying.antt`). Not said here: that any call but the making of new files leaves files that stand.
+//! Of files that stand (`laws.rt`): they stand for one database alone; new ones stand for the one without collections; each of the database's
+//! names has one node, and the others are free; a change of one collection's records and of its indexes' leaves the other collections.
+//!
+//! What the calls of records and of trees make of a collection: its documents follow its records (`records.rt`), the pairs of an index follow
+//! its documents (`items.rt`), and those of `_id_` stand in the documents' order (`ids.rt`).
+//!
+//! Not said here: that any call but the making of new files leaves files that stand.
 #![tactic(auto)]
 
+mod ids;
+mod items;
 mod laws;
+mod records;
 
-pub use laws::{new_files_stand, one_database, others_stay};
+pub use ids::ids_are_in_order;
+pub use items::pairs_follow_documents;
+pub use laws::{new_files_stand, nodes_are_counted, one_database, others_stay};
+pub use records::records_follow_documents;
